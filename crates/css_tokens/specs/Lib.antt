@@ -1,0 +1,4 @@
+pub mod formers
+pub mod Piece
+pub mod Texts
+pub mod Trees

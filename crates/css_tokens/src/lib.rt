@@ -1,0 +1,16 @@
+//! Tokens and component values of CSS text (CSS Syntax 3), and the lists and texts that the other crates share.
+#![tactic(auto)]
+
+mod component;
+mod kind;
+mod list;
+mod memory;
+mod text;
+mod token;
+
+pub use component::{Block, Component};
+pub use kind::Kind;
+pub use list::List;
+pub use memory::OutOfMemory;
+pub use text::Text;
+pub use token::Token;
