@@ -31,6 +31,8 @@ pub enum Simple<'a> {
     Class(Text<'a>),
     /// `#name`
     Id(Text<'a>),
+    /// `&` (CSS Nesting 1, section 3).
+    Parent,
 }
 
 /// A simple selector and where it stands.
