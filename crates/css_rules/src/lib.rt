@@ -1,7 +1,12 @@
 //! Style sheets: selectors, declarations and rules, read from component values (CSS Syntax 3, section 5; Selectors 4).
 #![tactic(auto)]
 
+mod cuts;
+mod declaration;
+mod parts;
+mod refusal;
 pub mod selector;
 mod sheet;
 
+pub use refusal::{Refusal, Sought};
 pub use sheet::{Declaration, Item, Sheet, Style};

@@ -1,4 +1,7 @@
-use crate::{List, Token};
+ghost use Rattle.std.specs.Prelude.{◌≡◌, IfOk};
+
+use crate::{List, OutOfMemory, Token};
+use std::alloc::Global;
 
 /// A component value (CSS Syntax 3, section 5).
 #[derive(Debug, Drop)]
@@ -20,4 +23,47 @@ pub struct Block<'a> {
     pub items: List<Component<'a>>,
     /// The place of the closing token, in bytes of the source.
     pub close: u32,
+}
+
+impl<'a> Component<'a> {
+    /// The same component again, over the same source.
+    #[cycle(copies)]
+    pub fn copy(&self, alloc: Global) -> Result<Component<'a>, OutOfMemory>
+        ensures { IfOk result (λ copy. copy ≡ self.now) }
+    {
+        match self {
+            Component::Single(token) => Ok(Component::Single(token.copy())),
+            Component::Block(block) => Ok(Component::Block(block.copy(alloc)?)),
+        }
+    }
+}
+
+impl<'a> Block<'a> {
+    /// The same block again, over the same source.
+    #[cycle(copies)]
+    pub fn copy(&self, alloc: Global) -> Result<Block<'a>, OutOfMemory>
+        ensures { IfOk result (λ copy. copy ≡ self.now) }
+    {
+        let items = copy_all(alloc, self.items.as_slice())?;
+        Ok(Block {
+            opening: self.opening.copy(),
+            items,
+            close: self.close,
+        })
+    }
+}
+
+/// The same components again, over the same source.
+#[cycle(copies)]
+pub fn copy_all<'a>(
+    alloc: Global,
+    components: &[Component<'a>],
+) -> Result<List<Component<'a>>, OutOfMemory>
+    ensures { IfOk result (λ copies. copies ≡ components.now) }
+{
+    let mut copies = List::new(alloc);
+    for component in components {
+        copies.push(component.copy(alloc)?)?;
+    }
+    Ok(copies)
 }

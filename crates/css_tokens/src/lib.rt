@@ -8,7 +8,7 @@ mod memory;
 mod text;
 mod token;
 
-pub use component::{Block, Component};
+pub use component::{Block, Component, copy_all};
 pub use kind::Kind;
 pub use list::List;
 pub use memory::OutOfMemory;

@@ -1,0 +1,54 @@
+-- Names of properties.
+use Rattle.std.proofs.Common.{◌≡◌, ℕ, List, [], ◌∷◌, Bool, true, false, refl, ◌∙◌, ap, arith, cond, ◌||◌, Some, None, ◌+◌, ◌<◌, ◌≤◌, length, take, drop, slice_range, ◌-◌}
+use Rattle.std.specs.List.{list_any}
+use Rattle.std.specs.Char.{is_ascii_uppercase, to_ascii_lowercase}
+use Rattle.std.specs.Str.{str_to_ascii_lowercase}
+use Rattle.std.proofs.lemmas.Bool.Decides.{nat_tests}
+use Rattle.css_tokens.specs.declared.component.Component.{Component}
+use Rattle.css_rules.specs.Components.{is_bang}
+use Rattle.css_rules.specs.Cuts.{Cut, cuts, trimmed, EndsCut}
+use Rattle.css_rules.specs.Declarations.{value_of, is_important}
+use Rattle.css_rules.proofs.CutLemmas.{first_cut, EndsCut-at_mark, EndsCut-at_end}
+
+pub or_false_left : (a b : Bool) → (a || b) ≡ false → a ≡ false
+or_false_left true b e = e
+or_false_left false b e = refl
+
+pub or_false_right : (a b : Bool) → (a || b) ≡ false → b ≡ false
+or_false_right true b e = cc
+or_false_right false b e = e
+
+lower-one : (b : ℕ) → is_ascii_uppercase b ≡ false → to_ascii_lowercase b ≡ b
+lower-one b e = grind (arith, nat_tests)
+
+-- a text without capitals is in lower case
+pub lower-same : (bs : List ℕ) → list_any is_ascii_uppercase bs ≡ false → str_to_ascii_lowercase bs ≡ bs
+lower-same [] e = refl
+lower-same (b ∷ bs) e =
+    let here = lower-one b (or_false_left (is_ascii_uppercase b) (list_any is_ascii_uppercase bs) e) in
+    let rest = lower-same bs (or_false_right (is_ascii_uppercase b) (list_any is_ascii_uppercase bs) e) in
+    ap (λ x. x ∷ str_to_ascii_lowercase bs) here ∙ ap (λ xs. b ∷ xs) rest
+
+-- a second `!` leaves no value
+pub value_of-many : (value mark : Cut) (test : Component → Bool) (cs : List Component) → value_of (value ∷ mark ∷ cuts test cs) ≡ None
+value_of-many value mark test cs = ap (λ rest. value_of (value ∷ mark ∷ rest)) (first_cut test cs).1.1
+
+-- what stands behind the first `!` decides
+pub value_of-second : (tail : List Component) (end next : ℕ) → end < length tail → EndsCut is_bang tail 0 end → next < length tail → EndsCut is_bang tail (end + 1) next → value_of (cuts is_bang tail) ≡ None
+value_of-second tail end next first_inside first second_inside second =
+    let one = EndsCut-at_mark is_bang tail 0 end first_inside first in
+    let two = EndsCut-at_mark is_bang tail (end + 1) next second_inside second in
+    ap value_of one.1
+    ∙ ap (λ rest. value_of (record { front = slice_range tail 0 end; mark = Some one.0 } ∷ rest)) two.1
+    ∙ value_of-many (record { front = slice_range tail 0 end; mark = Some one.0 }) (record { front = slice_range tail (end + 1) next; mark = Some two.0 }) is_bang (drop (next + 1) tail)
+
+pub value_of-marked : (tail : List Component) (end next : ℕ) (b : Bool) → end < length tail → EndsCut is_bang tail 0 end → length tail ≤ next → EndsCut is_bang tail (end + 1) next
+    → is_important (trimmed (slice_range tail (end + 1) next)) ≡ b → value_of (cuts is_bang tail) ≡ cond b (Some (trimmed (take end tail), true)) None
+value_of-marked tail end next b first_inside first second_past second important =
+    let one = EndsCut-at_mark is_bang tail 0 end first_inside first in
+    let two = EndsCut-at_end is_bang tail (end + 1) next second_past second in
+    let whole : end - 0 ≡ end = omega arith in
+    ap value_of one.1
+    ∙ ap (λ rest. value_of (record { front = slice_range tail 0 end; mark = Some one.0 } ∷ rest)) two
+    ∙ ap (λ i. cond i (Some (trimmed (slice_range tail 0 end), true)) None) important
+    ∙ ap (λ n. cond b (Some (trimmed (take n tail), true)) None) whole

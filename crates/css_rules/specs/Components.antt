@@ -1,0 +1,96 @@
+-- What a component begins with, and tests of it.
+use Rattle.std.specs.Prelude.{ℕ, List, [], Bool, true, false, ◌&&◌, not, codes, nat_eq}
+use Rattle.std.specs.List.{starts_with}
+use Rattle.std.specs.Str.{str_to_ascii_lowercase}
+use Rattle.css_tokens.specs.declared.kind.Kind.{Kind}
+use Rattle.css_tokens.specs.declared.kind.Kind.TheVariants.{White, Comment, Ident, At, Colon, Semicolon, Delim}
+use Rattle.css_tokens.specs.declared.component.Component.{Component, out-Component}
+use Rattle.css_tokens.specs.declared.component.Component.TheOpen.{Component-F, Single, Block}
+use Rattle.css_tokens.specs.declared.component.Block as block
+use Rattle.css_tokens.specs.Piece.{Piece}
+use Rattle.css_tokens.specs.Trees.{is_text}
+
+-- one component: a token, or a block
+abbrev pub Layer : Type 0
+Layer = Component-F Component block.Block
+
+abbrev pub layer_head : Layer → Piece
+layer_head (Single token) = token
+layer_head (Block b) = b.opening
+
+-- the first token of a component
+abbrev pub head : Component → Piece
+head c = layer_head (out-Component c)
+
+abbrev pub layer_is_single : Layer → Bool
+layer_is_single (Single token) = true
+layer_is_single (Block b) = false
+
+-- is it a token alone?
+abbrev pub is_single : Component → Bool
+is_single c = layer_is_single (out-Component c)
+
+abbrev pub layer_items : Layer → List Component
+layer_items (Single token) = []
+layer_items (Block b) = b.items
+
+-- what stands in a block
+abbrev pub inside : Component → List Component
+inside c = layer_items (out-Component c)
+
+abbrev pub is_gap_kind : Kind → Bool
+is_gap_kind White = true
+is_gap_kind Comment = true
+is_gap_kind _ = false
+
+abbrev pub is_ident_kind : Kind → Bool
+is_ident_kind Ident = true
+is_ident_kind _ = false
+
+abbrev pub is_at_kind : Kind → Bool
+is_at_kind At = true
+is_at_kind _ = false
+
+abbrev pub is_colon_kind : Kind → Bool
+is_colon_kind Colon = true
+is_colon_kind _ = false
+
+abbrev pub is_semicolon_kind : Kind → Bool
+is_semicolon_kind Semicolon = true
+is_semicolon_kind _ = false
+
+abbrev pub is_delim_kind : Kind → Bool
+is_delim_kind Delim = true
+is_delim_kind _ = false
+
+-- white space or a comment
+abbrev pub is_gap : Component → Bool
+is_gap c = is_single c && is_gap_kind (head c).kind
+
+abbrev pub is_ident : Component → Bool
+is_ident c = is_single c && is_ident_kind (head c).kind
+
+abbrev pub is_at_keyword : Component → Bool
+is_at_keyword c = is_single c && is_at_kind (head c).kind
+
+abbrev pub is_colon : Component → Bool
+is_colon c = is_single c && is_colon_kind (head c).kind
+
+abbrev pub is_semicolon : Component → Bool
+is_semicolon c = is_single c && is_semicolon_kind (head c).kind
+
+-- a `!` that stands alone
+abbrev pub is_bang : Component → Bool
+is_bang c = is_single c && (is_delim_kind (head c).kind && is_text (head c).text (codes "!"))
+
+-- a `{}` block
+abbrev pub is_braces : Component → Bool
+is_braces c = not (is_single c) && is_text (head c).text (codes "{")
+
+-- a name that begins with `--`
+abbrev pub is_custom : List ℕ → Bool
+is_custom name = starts_with nat_eq name (codes "--")
+
+-- is it this keyword, in any case of letters?
+abbrev pub is_keyword : List ℕ → List ℕ → Bool
+is_keyword keyword text = is_text (str_to_ascii_lowercase text) keyword

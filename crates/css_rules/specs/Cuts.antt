@@ -1,0 +1,39 @@
+-- Lists cut at marks, and without white space and comments at their ends.
+use Rattle.std.specs.Prelude.{ℕ, List, [], ◌∷◌, ◌+◌, ◌≡◌, Bool, Option, Some, None, if◌then◌else◌, drop, slice_get, slice_range, MatchOption}
+use Rattle.std.specs.List.{list_all}
+use Rattle.css_tokens.specs.declared.component.Component.{Component}
+use Rattle.css_rules.specs.Components.{is_gap}
+
+-- what stands before a mark, and the mark, or nothing where the list ends
+pub record Cut : Type 0 where
+  pub front : List Component
+  pub mark : Option Component
+
+abbrev pub with_front : Component → List Cut → List Cut
+with_front c [] = []
+with_front c (cut ∷ cuts) = record { front = c ∷ cut.front; mark = cut.mark } ∷ cuts
+
+-- The list cut at each component that passes the test. The last cut ends where the list does.
+abbrev pub cuts : (Component → Bool) → List Component → List Cut
+cuts test [] = record { front = []; mark = None } ∷ []
+cuts test (c ∷ cs) = if test c then record { front = []; mark = Some c } ∷ cuts test cs else with_front c (cuts test cs)
+
+-- without white space and comments at the start
+abbrev pub trimmed_start : List Component → List Component
+trimmed_start [] = []
+trimmed_start (c ∷ cs) = if is_gap c then trimmed_start cs else c ∷ cs
+
+-- without white space and comments at the end
+abbrev pub trimmed_end : List Component → List Component
+trimmed_end [] = []
+trimmed_end (c ∷ cs) = if list_all is_gap (c ∷ cs) then [] else c ∷ trimmed_end cs
+
+abbrev pub trimmed : List Component → List Component
+trimmed cs = trimmed_end (trimmed_start cs)
+
+-- The first cut of what stands from a place on ends at this other place, at a mark or at the end of the list.
+abbrev pub EndsCut : (Component → Bool) → List Component → ℕ → ℕ → Type 0
+EndsCut test cs from to =
+    MatchOption (slice_get cs to)
+    (cuts test (drop from cs) ≡ record { front = slice_range cs from to; mark = None } ∷ [])
+    (λ c. cuts test (drop from cs) ≡ record { front = slice_range cs from to; mark = Some c } ∷ cuts test (drop (to + 1) cs))

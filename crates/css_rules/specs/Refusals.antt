@@ -1,0 +1,79 @@
+-- What a sheet is refused for, and which refusal is named.
+use Rattle.std.specs.Prelude.{ℕ, List, [], ◌∷◌, Bool, true, false, ◌||◌, codes, Option, Some, None, if◌then◌else◌, nat_eq, nat_lt, find}
+use Rattle.std.specs.List.{starts_with}
+use Rattle.css_tokens.specs.declared.kind.Kind.{Kind}
+use Rattle.css_tokens.specs.declared.kind.Kind.TheVariants.{Ident, Function, Url, Colon, Open, Delim}
+use Rattle.css_tokens.specs.declared.component.Component.{Component}
+use Rattle.css_tokens.specs.Piece.{Piece}
+use Rattle.css_tokens.specs.Trees.{pieces_all, is_text}
+use Rattle.css_rules.specs.declared.refusal.Refusal.{Refusal}
+use Rattle.css_rules.specs.declared.refusal.Refusal.TheVariants.{Syntax, Unbuilt}
+use Rattle.css_rules.specs.declared.refusal.Sought.{Sought}
+use Rattle.css_rules.specs.declared.refusal.Sought.TheVariants.{ColonOrBracket, Ampersand, RevertLayer, RevertLayerOrUrl}
+use Rattle.css_rules.specs.Components.{is_keyword}
+
+abbrev pub place_of : Refusal → ℕ
+place_of (Syntax at) = at
+place_of (Unbuilt at) = at
+
+-- Of two refusals the one at the lesser place is named, and of two at one place the construct that is not built yet.
+abbrev pub sooner : Refusal → Refusal → Refusal
+sooner (Syntax a) (Syntax b) = if nat_lt b a then Syntax b else Syntax a
+sooner (Syntax a) (Unbuilt b) = if nat_lt a b then Syntax a else Unbuilt b
+sooner (Unbuilt a) (Syntax b) = if nat_lt b a then Syntax b else Unbuilt a
+sooner (Unbuilt a) (Unbuilt b) = if nat_lt b a then Unbuilt b else Unbuilt a
+
+abbrev pub sooner_of : Option Refusal → Option Refusal → Option Refusal
+sooner_of None other = other
+sooner_of (Some a) None = Some a
+sooner_of (Some a) (Some b) = Some (sooner a b)
+
+-- the refusal that is named, where there is any
+abbrev pub first_refusal : List Refusal → Option Refusal
+first_refusal [] = None
+first_refusal (refusal ∷ refusals) = sooner_of (Some refusal) (first_refusal refusals)
+
+abbrev pub is_colon_or_bracket : Kind → List ℕ → Bool
+is_colon_or_bracket Colon text = true
+is_colon_or_bracket Open text = is_text text (codes "[")
+is_colon_or_bracket _ text = false
+
+abbrev pub is_ampersand : Kind → List ℕ → Bool
+is_ampersand Delim text = is_text text (codes "&")
+is_ampersand _ text = false
+
+abbrev pub is_revert_layer : Kind → List ℕ → Bool
+is_revert_layer Ident text = is_keyword (codes "revert-layer") text
+is_revert_layer _ text = false
+
+abbrev pub is_url : Kind → List ℕ → Bool
+is_url Url text = true
+is_url Function text = is_keyword (codes "url(") text
+is_url _ text = false
+
+-- the tokens of constructs that are not built yet
+abbrev pub is_sought : Sought → Piece → Bool
+is_sought ColonOrBracket token = is_colon_or_bracket token.kind token.text
+is_sought Ampersand token = is_ampersand token.kind token.text
+is_sought RevertLayer token = is_revert_layer token.kind token.text
+is_sought RevertLayerOrUrl token = is_revert_layer token.kind token.text || is_url token.kind token.text
+
+-- where the first such token of these components stands, at any depth
+abbrev pub unbuilt_at : Option Piece → List Refusal
+unbuilt_at None = []
+unbuilt_at (Some token) = Unbuilt token.at ∷ []
+
+abbrev pub sought_in : Sought → List Component → List Refusal
+sought_in sought cs = unbuilt_at (find (is_sought sought) (pieces_all cs))
+
+-- does the text hold the word?
+abbrev pub holds : List ℕ → List ℕ → Bool
+holds word [] = starts_with nat_eq [] word
+holds word (c ∷ text) = starts_with nat_eq (c ∷ text) word || holds word text
+
+-- the properties that later stages rewrite
+abbrev pub is_unbuilt_property : List ℕ → Bool
+is_unbuilt_property name =
+    holds (codes "inline") name || (holds (codes "block") name || (starts_with nat_eq name (codes "inset")
+    || (starts_with nat_eq name (codes "border-start-") || (starts_with nat_eq name (codes "border-end-")
+    || (is_text name (codes "float") || (is_text name (codes "clear") || (is_text name (codes "resize") || is_text name (codes "composes"))))))))

@@ -1,0 +1,94 @@
+-- Sheets of plain style rules (CSS Syntax 3, sections 5.4 and 9), and the places of what they are refused for.
+use Rattle.std.specs.Prelude.{ℕ, List, [], ◌∷◌, ◌++◌, Bool, false, ◌&&◌, ◌||◌, not, Option, Some, None, if◌then◌else◌, flat_map}
+use Rattle.std.specs.List.{list_any}
+use Rattle.std.specs.Option.{option_to_list}
+use Rattle.css_tokens.specs.declared.component.Component.{Component}
+use Rattle.css_rules.specs.declared.refusal.Refusal.{Refusal}
+use Rattle.css_rules.specs.declared.refusal.Refusal.TheVariants.{Syntax, Unbuilt}
+use Rattle.css_rules.specs.declared.refusal.Sought.TheVariants.{ColonOrBracket, Ampersand, RevertLayer, RevertLayerOrUrl}
+use Rattle.css_rules.specs.declared.sheet.Declaration.{Declaration}
+use Rattle.css_rules.specs.declared.sheet.Item.{Item, Style, Plain}
+use Rattle.css_rules.specs.declared.sheet.Sheet.{Sheet}
+use Rattle.css_rules.specs.Components.{head, inside, is_at_keyword, is_semicolon, is_braces, is_custom}
+use Rattle.css_rules.specs.Cuts.{Cut, cuts, trimmed}
+use Rattle.css_rules.specs.Declarations.{declaration_of, begins_custom}
+use Rattle.css_rules.specs.Refusals.{sought_in, is_unbuilt_property}
+use Rattle.css_rules.specs.Selectors.{list_of, list_faults}
+
+-- the declarations between the semicolons of a style rule's block
+abbrev pub declarations_of : List Component → List Declaration
+declarations_of block = flat_map (λ cut. option_to_list (declaration_of (trimmed cut.front))) (cuts is_semicolon block)
+
+-- a run of declarations, where there is any
+abbrev pub run_of : List Declaration → List Item
+run_of [] = []
+run_of (d ∷ ds) = Plain (d ∷ ds) ∷ []
+
+abbrev pub first_place : List Component → ℕ → ℕ
+first_place [] otherwise = otherwise
+first_place (c ∷ cs) otherwise = (head c).at
+
+-- a style rule: a prelude and a `{}` block
+abbrev pub rule_of : List Component → Option Component → List Item
+rule_of prelude None = []
+rule_of prelude (Some block) =
+    Style (record { selectors = list_of prelude; items = run_of (declarations_of (inside block)); at = first_place (trimmed prelude) (head block).at }) ∷ []
+
+-- the sheet that the components spell: a style rule for each `{}` block
+abbrev pub sheet_of : List Component → Sheet
+sheet_of cs = record { items = flat_map (λ cut. rule_of cut.front cut.mark) (cuts is_braces cs) }
+
+-- What a declaration is refused for: that it cannot be read, or that its property or a token of its value waits for a later stage.
+abbrev pub declaration_refusals : ℕ → Option Declaration → List Refusal
+declaration_refusals at None = Syntax at ∷ []
+declaration_refusals at (Some d) =
+    (if is_unbuilt_property d.name then Unbuilt at ∷ [] else [])
+    ++ sought_in (if is_custom d.name then RevertLayer else RevertLayerOrUrl) d.value
+
+-- Is it an at-rule or a nested rule? Both wait for a later stage.
+abbrev pub begins_rule : List Component → Bool
+begins_rule [] = false
+begins_rule (c ∷ cs) = is_at_keyword c || (not (begins_custom (c ∷ cs)) && list_any is_braces (c ∷ cs))
+
+-- what an item of a style rule's block is refused for
+abbrev pub item_refusals : List Component → List Refusal
+item_refusals [] = []
+item_refusals (c ∷ cs) = if begins_rule (c ∷ cs) then Unbuilt (head c).at ∷ [] else declaration_refusals (head c).at (declaration_of (c ∷ cs))
+
+abbrev pub block_refusals : List Component → List Refusal
+block_refusals block = flat_map (λ cut. item_refusals (trimmed cut.front)) (cuts is_semicolon block)
+
+abbrev pub first_fault : List ℕ → List Refusal
+first_fault [] = []
+first_fault (at ∷ faults) = Syntax at ∷ []
+
+-- A prelude with a colon or a `[` waits for a later stage at the first of these, and nothing else is said of it.
+abbrev pub prelude_refusals_by : List Refusal → List Component → ℕ → List Refusal
+prelude_refusals_by (refusal ∷ _) prelude end = refusal ∷ []
+prelude_refusals_by [] prelude end = sought_in Ampersand prelude ++ first_fault (list_faults prelude end)
+
+abbrev pub prelude_refusals : List Component → ℕ → List Refusal
+prelude_refusals prelude end = prelude_refusals_by (sought_in ColonOrBracket prelude) prelude end
+
+-- what stands behind the last rule: nothing but white space and comments, or the start of something that is no rule
+abbrev pub leftover_refusals : List Component → List Refusal
+leftover_refusals [] = []
+leftover_refusals (c ∷ cs) = Syntax (head c).at ∷ []
+
+abbrev pub rule_refusals_by : List Component → List Component → Option Component → List Refusal
+rule_refusals_by words prelude None = leftover_refusals words
+rule_refusals_by words prelude (Some block) = prelude_refusals prelude (head block).at ++ block_refusals (inside block)
+
+-- what a rule is refused for: an at-rule waits for a later stage
+abbrev pub begins_at_rule : List Component → Bool
+begins_at_rule [] = false
+begins_at_rule (c ∷ cs) = is_at_keyword c
+
+abbrev pub rule_refusals : Cut → List Refusal
+rule_refusals cut =
+    if begins_at_rule (trimmed cut.front)
+    then Unbuilt (first_place (trimmed cut.front) 0) ∷ []
+    else rule_refusals_by (trimmed cut.front) cut.front cut.mark
+
+abbrev pub sheet_refusals : List Component → List Refusal
+sheet_refusals cs = flat_map rule_refusals (cuts is_braces cs)

@@ -1,0 +1,162 @@
+ghost use Rattle.std.specs.Prelude.{◌≡◌, ◌∷◌, [], find};
+ghost use Rattle.css_tokens.specs.declared.component.Component.{Block as the_block};
+ghost use Rattle.css_tokens.specs.Trees.{pieces_of, pieces_all};
+ghost use Rattle.css_rules.specs.Refusals.{sooner_of, is_sought, sought_in, first_refusal, sooner, is_colon_or_bracket, is_ampersand, is_revert_layer, is_url};
+ghost use Rattle.std.specs.Option.{option_map};
+
+use css_tokens::{Block, Component, Kind, Token};
+
+use crate::parts::is_keyword;
+
+/// What a sheet is refused for, with its place in bytes of the source.
+#[derive(Clone, Copy, Debug)]
+pub enum Refusal {
+    /// It cannot be read.
+    Syntax(u32),
+    /// It is a construct that is not built yet.
+    Unbuilt(u32),
+}
+
+/// The tokens of constructs that are not built yet.
+#[derive(Clone, Copy, Debug)]
+pub enum Sought {
+    /// A colon or a `[`, in a prelude.
+    ColonOrBracket,
+    /// `&`, in a prelude.
+    Ampersand,
+    /// The keyword `revert-layer`, in a value.
+    RevertLayer,
+    /// This keyword, a Url token or the Function `url(`, in a value.
+    RevertLayerOrUrl,
+}
+
+impl Refusal {
+    /// Of two refusals the one at the lesser place, and of two at one place the construct that is not built yet.
+    fn sooner(self, other: Refusal) -> Refusal
+        ensures { result ≡ sooner self other }
+    {
+        match (self, other) {
+            (Refusal::Syntax(a), Refusal::Syntax(b)) => Refusal::Syntax(if b < a { b } else { a }),
+            (Refusal::Syntax(a), Refusal::Unbuilt(b)) if a < b => Refusal::Syntax(a),
+            (Refusal::Syntax(_), Refusal::Unbuilt(b)) => Refusal::Unbuilt(b),
+            (Refusal::Unbuilt(a), Refusal::Syntax(b)) if b < a => Refusal::Syntax(b),
+            (Refusal::Unbuilt(a), Refusal::Syntax(_)) => Refusal::Unbuilt(a),
+            (Refusal::Unbuilt(a), Refusal::Unbuilt(b)) => Refusal::Unbuilt(if b < a { b } else { a }),
+        }
+    }
+}
+
+/// The refusal that is named of two that may stand.
+pub fn sooner_of(first: Option<Refusal>, second: Option<Refusal>) -> Option<Refusal>
+    ensures { result ≡ sooner_of first second }
+{
+    match (first, second) {
+        (Some(a), Some(b)) => Some(a.sooner(b)),
+        (Some(a), None) => Some(a),
+        (None, other) => other,
+    }
+}
+
+
+fn is_colon_or_bracket(token: &Token) -> bool
+    ensures { result ≡ is_colon_or_bracket token.now.kind token.now.text }
+{
+    match token.kind {
+        Kind::Colon => true,
+        Kind::Open => token.text == "[",
+        _ => false,
+    }
+}
+
+fn is_revert_layer(token: &Token) -> bool
+    ensures { result ≡ is_revert_layer token.now.kind token.now.text }
+{
+    match token.kind {
+        Kind::Ident => is_keyword(token.text, "revert-layer"),
+        _ => false,
+    }
+}
+
+fn is_url(token: &Token) -> bool
+    ensures { result ≡ is_url token.now.kind token.now.text }
+{
+    match token.kind {
+        Kind::Url => true,
+        Kind::Function => is_keyword(token.text, "url("),
+        _ => false,
+    }
+}
+
+fn is_ampersand(token: &Token) -> bool
+    ensures { result ≡ is_ampersand token.now.kind token.now.text }
+{
+    match token.kind {
+        Kind::Delim => token.text == "&",
+        _ => false,
+    }
+}
+
+impl Sought {
+    /// The place of the token where it is one of these.
+    fn at(self, token: &Token) -> Option<u32>
+        ensures { result ≡ option_map (λ token. token.at) (find (is_sought self) (token.now ∷ [])) }
+    {
+        if self.is(token) { Some(token.at) } else { None }
+    }
+
+    fn is(self, token: &Token) -> bool
+        ensures { result ≡ is_sought self token.now }
+    {
+        match self {
+            Sought::ColonOrBracket => is_colon_or_bracket(token),
+            Sought::Ampersand => is_ampersand(token),
+            Sought::RevertLayer => is_revert_layer(token),
+            Sought::RevertLayerOrUrl => is_revert_layer(token) || is_url(token),
+        }
+    }
+}
+
+/// Where the first such token stands in a component, at any depth.
+#[cycle(sought)]
+fn sought_in_one(component: &Component, sought: Sought) -> Option<u32>
+    ensures { result ≡ option_map (λ token. token.at) (find (is_sought sought) (pieces_of component.now)) }
+{
+    match component {
+        Component::Single(token) => sought.at(token),
+        Component::Block(block) => sought_in_block(block, sought),
+    }
+}
+
+#[cycle(sought)]
+fn sought_in_block(block: &Block, sought: Sought) -> Option<u32>
+    ensures { result ≡ option_map (λ token. token.at) (find (is_sought sought) (pieces_of (the_block block.now))) }
+{
+    match sought.at(&block.opening) {
+        Some(at) => Some(at),
+        None => sought_in_all(block.items.as_slice(), sought),
+    }
+}
+
+/// Where the first such token stands in a list of components, at any depth.
+#[cycle(sought)]
+fn sought_in_all(components: &[Component], sought: Sought) -> Option<u32>
+    ensures { result ≡ option_map (λ token. token.at) (find (is_sought sought) (pieces_all components.now)) }
+{
+    for component in components {
+        match sought_in_one(component, sought) {
+            Some(at) => return Some(at),
+            None => {}
+        }
+    }
+    None
+}
+
+/// The refusal of a construct that is not built yet, where one of its tokens stands in these components.
+pub fn sought_in(components: &[Component], sought: Sought) -> Option<Refusal>
+    ensures { result ≡ first_refusal (sought_in sought components.now) }
+{
+    match sought_in_all(components, sought) {
+        Some(at) => Some(Refusal::Unbuilt(at)),
+        None => None,
+    }
+}
