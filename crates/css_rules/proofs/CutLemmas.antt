@@ -1,10 +1,11 @@
 -- Lists cut at marks, and trimmed.
-use Rattle.std.proofs.Common.{◌≡◌, ℕ, ◌+◌, ◌-◌, ◌<◌, ◌≤◌, List, [], ◌∷◌, ◌++◌, Bool, true, false, Option, Some, None, refl, sym, ◌∙◌, ap, subst, arith, length, take, drop, get_or, slice_range, cond, ◌&&◌, add-one, slice_get, MatchOption, inl, inr}
+use Rattle.std.proofs.Common.{◌≡◌, ℕ, ◌+◌, ◌-◌, ◌<◌, ◌≤◌, List, [], ◌∷◌, ◌++◌, Bool, true, false, Option, Some, None, refl, sym, ◌∙◌, ap, subst, arith, length, take, drop, get_or, slice_range, cond, ◌&&◌, add-one, slice_get, MatchOption, inl, inr, if◌then◌else◌, nat_le, le-leb}
 use Rattle.std.proofs.Math.Seq.{drop-cons, drop-length}
 use Rattle.std.proofs.lemmas.List.{take_more, get_or-drop, length-drop, append-nil}
-use Rattle.std.proofs.lemmas.Option.{slice_get-get_or, slice_get_past, slice_get_cases}
+use Rattle.std.proofs.lemmas.Option.{slice_get-get_or, slice_get_past, slice_get_cases, slice_get_within}
 use Rattle.std.proofs.lemmas.List.Folds.{list_all-append}
 use Rattle.std.proofs.lemmas.Bool.{cases_Bool}
+use Rattle.std.proofs.lemmas.Bool.Decides.{nat_tests}
 use Rattle.std.proofs.Math.Bool.{and-true, and-false}
 use Rattle.std.specs.List.{list_all}
 use Rattle.css_tokens.specs.declared.component.Component.{Component}
@@ -99,8 +100,8 @@ pub EndsCut-mark : (test : Component → Bool) (cs : List Component) (from to : 
     → cuts test (drop from cs) ≡ prepended (slice_range cs from to) (cuts test (drop to cs)) → EndsCut test cs from to
 EndsCut-mark test cs from to d lt marked so_far =
     let P : Option Component → Type 0 = λ o. MatchOption o
-        (cuts test (drop from cs) ≡ record { front = slice_range cs from to; mark = None } ∷ [])
-        (λ c. cuts test (drop from cs) ≡ record { front = slice_range cs from to; mark = Some c } ∷ cuts test (drop (to + 1) cs)) in
+    (cuts test (drop from cs) ≡ record { front = slice_range cs from to; mark = None } ∷ [])
+    (λ c. cuts test (drop from cs) ≡ record { front = slice_range cs from to; mark = Some c } ∷ cuts test (drop (to + 1) cs)) in
     subst P (sym (slice_get-get_or cs to d lt))
     (so_far
     ∙ ap (λ rest. prepended (slice_range cs from to) (cuts test rest)) (drop-more cs to d lt)
@@ -113,8 +114,8 @@ pub EndsCut-end : (test : Component → Bool) (cs : List Component) (from to : �
     → cuts test (drop from cs) ≡ prepended (slice_range cs from to) (cuts test (drop to cs)) → EndsCut test cs from to
 EndsCut-end test cs from to past within so_far =
     let P : Option Component → Type 0 = λ o. MatchOption o
-        (cuts test (drop from cs) ≡ record { front = slice_range cs from to; mark = None } ∷ [])
-        (λ c. cuts test (drop from cs) ≡ record { front = slice_range cs from to; mark = Some c } ∷ cuts test (drop (to + 1) cs)) in
+    (cuts test (drop from cs) ≡ record { front = slice_range cs from to; mark = None } ∷ [])
+    (λ c. cuts test (drop from cs) ≡ record { front = slice_range cs from to; mark = Some c } ∷ cuts test (drop (to + 1) cs)) in
     let all : to ≡ length cs = omega arith in
     subst P (sym (slice_get_past cs to past))
     (so_far
@@ -128,8 +129,8 @@ first_cut test [] = (record { front = []; mark = None }, ([], refl))
 first_cut test (c ∷ cs) =
     let more = first_cut test cs in
     elim (cases_Bool (test c)) [
-      inl marked ↦ (record { front = []; mark = Some c }, (cuts test cs, cuts-marked test c cs marked))
-    | inr unmarked ↦ (record { front = c ∷ more.0.front; mark = more.0.mark }, (more.1.0, cuts-unmarked test c cs unmarked ∙ ap (with_front c) more.1.1))
+      | inl marked ↦ (record { front = []; mark = Some c }, (cuts test cs, cuts-marked test c cs marked))
+      | inr unmarked ↦ (record { front = c ∷ more.0.front; mark = more.0.mark }, (more.1.0, cuts-unmarked test c cs unmarked ∙ ap (with_front c) more.1.1))
     ]
 
 -- What the first cut is, where it ends before the list does: the mark is some component.
@@ -148,6 +149,40 @@ pub EndsCut-at_end : (test : Component → Bool) (cs : List Component) (from to 
     → cuts test (drop from cs) ≡ record { front = slice_range cs from to; mark = None } ∷ []
 EndsCut-at_end test cs from to past ends =
     let P : Option Component → Type 0 = λ o. MatchOption o
-        (cuts test (drop from cs) ≡ record { front = slice_range cs from to; mark = None } ∷ [])
-        (λ c. cuts test (drop from cs) ≡ record { front = slice_range cs from to; mark = Some c } ∷ cuts test (drop (to + 1) cs)) in
+    (cuts test (drop from cs) ≡ record { front = slice_range cs from to; mark = None } ∷ [])
+    (λ c. cuts test (drop from cs) ≡ record { front = slice_range cs from to; mark = Some c } ∷ cuts test (drop (to + 1) cs)) in
     subst P (slice_get_past cs to past) ends
+
+-- the cuts of what stands from a place on: none past the end
+abbrev pub cuts_left : (Component → Bool) → List Component → ℕ → List Cut
+cuts_left test cs from = if nat_le from (length cs) then cuts test (drop from cs) else []
+
+cuts_left-inside : (test : Component → Bool) (cs : List Component) (from : ℕ) → from ≤ length cs → cuts_left test cs from ≡ cuts test (drop from cs)
+cuts_left-inside test cs from le = ap (λ b. cond b (cuts test (drop from cs)) []) (le-leb from (length cs) le)
+
+-- there are none past the end
+pub cuts_left-past : (test : Component → Bool) (cs : List Component) (from : ℕ) → length cs < from → cuts_left test cs from ≡ []
+cuts_left-past test cs from past = ap (λ b. cond b (cuts test (drop from cs)) []) (past-leb from (length cs) past)
+  where
+    past-leb : (a b : ℕ) → b < a → nat_le a b ≡ false
+    past-leb a b lt = grind (arith, nat_tests)
+
+-- the first of them, and those behind it
+pub cuts_left-step : (test : Component → Bool) (cs : List Component) (from to : ℕ) → from ≤ length cs → to ≤ length cs → EndsCut test cs from to
+    → cuts_left test cs from ≡ record { front = slice_range cs from to; mark = slice_get cs to } ∷ cuts_left test cs (to + 1)
+cuts_left-step test cs from to start within ends = cuts_left-inside test cs from start ∙ at (slice_get cs to) refl ends
+  where
+    at : (o : Option Component) → slice_get cs to ≡ o → MatchOption o
+        (cuts test (drop from cs) ≡ record { front = slice_range cs from to; mark = None } ∷ [])
+        (λ c. cuts test (drop from cs) ≡ record { front = slice_range cs from to; mark = Some c } ∷ cuts test (drop (to + 1) cs))
+        → cuts test (drop from cs) ≡ record { front = slice_range cs from to; mark = slice_get cs to } ∷ cuts_left test cs (to + 1)
+    at None none cut =
+        let past : length cs < to + 1 = elim (slice_get_cases cs to).1 [ inl found ↦ absurd (cc (none, found.2)) | inr le ↦ omega (arith, le.0) ] in
+        cut
+        ∙ ap (λ o. record { front = slice_range cs from to; mark = o } ∷ []) (sym none)
+        ∙ ap (λ rest. record { front = slice_range cs from to; mark = slice_get cs to } ∷ rest) (sym (cuts_left-past test cs (to + 1) past))
+    at (Some mark) is cut =
+        let inside : to + 1 ≤ length cs = omega (arith, slice_get_within cs to mark is) in
+        cut
+        ∙ ap (λ o. record { front = slice_range cs from to; mark = o } ∷ cuts test (drop (to + 1) cs)) (sym is)
+        ∙ ap (λ rest. record { front = slice_range cs from to; mark = slice_get cs to } ∷ rest) (sym (cuts_left-inside test cs (to + 1) inside))

@@ -1,3 +1,5 @@
 pub mod CutLemmas
 pub mod SoughtLemmas
 pub mod DeclarationLemmas
+pub mod RefusalLemmas
+pub mod ReaderLemmas

@@ -5,3 +5,4 @@ pub mod Refusals
 pub mod Selectors
 pub mod Sheets
 pub mod Marks
+pub mod SelectorFaults

@@ -1,5 +1,5 @@
 -- Sheets of plain style rules (CSS Syntax 3, sections 5.4 and 9), and the places of what they are refused for.
-use Rattle.std.specs.Prelude.{ℕ, List, [], ◌∷◌, ◌++◌, Bool, false, ◌&&◌, ◌||◌, not, Option, Some, None, if◌then◌else◌, flat_map}
+use Rattle.std.specs.Prelude.{ℕ, List, [], ◌∷◌, ◌++◌, ◌≡◌, Bool, false, ◌&&◌, ◌||◌, not, Option, Some, None, if◌then◌else◌, flat_map}
 use Rattle.std.specs.List.{list_any}
 use Rattle.std.specs.Option.{option_to_list}
 use Rattle.css_tokens.specs.declared.component.Component.{Component}
@@ -9,6 +9,8 @@ use Rattle.css_rules.specs.declared.refusal.Sought.TheVariants.{ColonOrBracket, 
 use Rattle.css_rules.specs.declared.sheet.Declaration.{Declaration}
 use Rattle.css_rules.specs.declared.sheet.Item.{Item, Style, Plain}
 use Rattle.css_rules.specs.declared.sheet.Sheet.{Sheet}
+use Rattle.css_rules.specs.declared.reader.RuleFault.{RuleFault}
+use Rattle.css_rules.specs.declared.reader.RuleFault.TheVariants as faults
 use Rattle.css_rules.specs.Components.{head, inside, is_at_keyword, is_semicolon, is_braces, is_custom}
 use Rattle.css_rules.specs.Cuts.{Cut, cuts, trimmed}
 use Rattle.css_rules.specs.Declarations.{declaration_of, begins_custom}
@@ -34,9 +36,13 @@ rule_of prelude None = []
 rule_of prelude (Some block) =
     Style (record { selectors = list_of prelude; items = run_of (declarations_of (inside block)); at = first_place (trimmed prelude) (head block).at }) ∷ []
 
--- the sheet that the components spell: a style rule for each `{}` block
+-- a style rule for each `{}` block
+abbrev pub rules_of : List Component → List Item
+rules_of cs = flat_map (λ cut. rule_of cut.front cut.mark) (cuts is_braces cs)
+
+-- the sheet that the components spell
 abbrev pub sheet_of : List Component → Sheet
-sheet_of cs = record { items = flat_map (λ cut. rule_of cut.front cut.mark) (cuts is_braces cs) }
+sheet_of cs = record { items = rules_of cs }
 
 -- What a declaration is refused for: that it cannot be read, or that its property or a token of its value waits for a later stage.
 abbrev pub declaration_refusals : ℕ → Option Declaration → List Refusal
@@ -92,3 +98,9 @@ rule_refusals cut =
 
 abbrev pub sheet_refusals : List Component → List Refusal
 sheet_refusals cs = flat_map rule_refusals (cuts is_braces cs)
+
+-- a fault names this refusal, unless memory ran out
+abbrev pub IsNamed : RuleFault → Option Refusal → Type 0
+IsNamed (faults.Syntax at) refusal = refusal ≡ Some (Syntax at)
+IsNamed (faults.Unbuilt at) refusal = refusal ≡ Some (Unbuilt at)
+IsNamed faults.Memory refusal = Unit {0}

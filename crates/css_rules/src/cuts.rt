@@ -1,12 +1,12 @@
 //! Lists of components cut at marks, and without white space and comments at their ends.
 
 ghost use Rattle.std.specs.Prelude.{◌≡◌, ◌≤◌, ◌+◌, ◌∷◌, [], length, drop, slice_get, slice_range, MatchOption};
+ghost use Rattle.std.specs.Option.{option_copied};
 ghost use Rattle.css_rules.specs.Cuts.{cuts, trimmed, trimmed_start, trimmed_end, EndsCut};
 ghost use Rattle.css_rules.specs.Marks.{is_mark};
 
-use css_tokens::{Component, Kind};
-
 use crate::parts::{head_of, is_space, is_token};
+use css_tokens::{Component, Kind};
 
 /// What a list is cut at.
 #[derive(Clone, Copy, Debug)]
@@ -73,4 +73,11 @@ pub fn trimmed<'s, 'a>(components: &'s [Component<'a>]) -> &'s [Component<'a>]
     ensures { result.now ≡ trimmed components.now }
 {
     trimmed_end(trimmed_start(components))
+}
+
+/// The mark at a place, if the list goes so far.
+pub fn mark_at<'s, 'a>(components: &'s [Component<'a>], at: usize) -> Option<&'s Component<'a>>
+    ensures { option_copied result ≡ slice_get components.now at }
+{
+    components.get(at)
 }

@@ -10,12 +10,11 @@ ghost use Rattle.css_rules.specs.Marks.{is_mark};
 ghost use Rattle.css_rules.specs.declared.cuts.Mark.TheVariants.{Bang};
 ghost use Rattle.css_rules.specs.Declarations.{property_name, after_colon, is_important, may_be_value, value_of, declared, declaration_of, begins_custom};
 
-use css_tokens::{Component, Kind, OutOfMemory, Text, Token, copy_all};
-use std::alloc::Global;
-
 use crate::cuts::{Mark, end_of_cut, trimmed, trimmed_start};
 use crate::parts::{head_of, is_block_in, is_keyword, is_token};
 use crate::sheet::Declaration;
+use css_tokens::{Component, Kind, OutOfMemory, Text, Token, copy_all};
+use std::alloc::Global;
 
 fn is_ident(component: &Component) -> bool
     ensures { result ≡ is_ident component.now }

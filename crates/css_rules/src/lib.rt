@@ -4,9 +4,11 @@
 mod cuts;
 mod declaration;
 mod parts;
+mod reader;
 mod refusal;
 pub mod selector;
 mod sheet;
 
+pub use reader::RuleFault;
 pub use refusal::{Refusal, Sought};
 pub use sheet::{Declaration, Item, Sheet, Style};

@@ -31,8 +31,7 @@ pub fn is_token(component: &Component) -> bool
 pub fn is_space(component: &Component) -> bool
     ensures { result ≡ is_gap component.now }
 {
-    is_token(component)
-        && matches!(head_of(component).kind, Kind::White | Kind::Comment)
+    is_token(component) && matches!(head_of(component).kind, Kind::White | Kind::Comment)
 }
 
 /// Whether a text is a keyword, which is given in lower case, in any case of letters.

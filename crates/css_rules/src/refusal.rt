@@ -4,9 +4,8 @@ ghost use Rattle.css_tokens.specs.Trees.{pieces_of, pieces_all};
 ghost use Rattle.css_rules.specs.Refusals.{sooner_of, is_sought, sought_in, first_refusal, sooner, is_colon_or_bracket, is_ampersand, is_revert_layer, is_url};
 ghost use Rattle.std.specs.Option.{option_map};
 
-use css_tokens::{Block, Component, Kind, Token};
-
 use crate::parts::is_keyword;
+use css_tokens::{Block, Component, Kind, Token};
 
 /// What a sheet is refused for, with its place in bytes of the source.
 #[derive(Clone, Copy, Debug)]
@@ -41,7 +40,11 @@ impl Refusal {
             (Refusal::Syntax(_), Refusal::Unbuilt(b)) => Refusal::Unbuilt(b),
             (Refusal::Unbuilt(a), Refusal::Syntax(b)) if b < a => Refusal::Syntax(b),
             (Refusal::Unbuilt(a), Refusal::Syntax(_)) => Refusal::Unbuilt(a),
-            (Refusal::Unbuilt(a), Refusal::Unbuilt(b)) => Refusal::Unbuilt(if b < a { b } else { a }),
+            (Refusal::Unbuilt(a), Refusal::Unbuilt(b)) => Refusal::Unbuilt(if b < a {
+                b
+            } else {
+                a
+            }),
         }
     }
 }
@@ -56,7 +59,6 @@ pub fn sooner_of(first: Option<Refusal>, second: Option<Refusal>) -> Option<Refu
         (None, other) => other,
     }
 }
-
 
 fn is_colon_or_bracket(token: &Token) -> bool
     ensures { result ≡ is_colon_or_bracket token.now.kind token.now.text }
