@@ -1,3 +1,5 @@
+pub mod sign;
+
 use css_tokens::{List, Text};
 
 /// How the elements of two neighbouring compounds stand to each other (Selectors 4, section 14).
