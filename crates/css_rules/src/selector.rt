@@ -1,3 +1,4 @@
+pub mod read;
 pub mod sign;
 
 use css_tokens::{List, Text};
