@@ -1,1 +1,2 @@
 pub mod SelectorReading
+pub mod WritingLemmas

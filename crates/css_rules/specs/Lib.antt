@@ -1,5 +1,8 @@
+pub mod BareSelectors
 pub mod Names
 pub mod SelectorFaults
 pub mod SelectorSteps
+pub mod SelectorTexts
 pub mod Selectors
 pub mod Signs
+pub mod Writing

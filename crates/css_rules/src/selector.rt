@@ -1,5 +1,6 @@
 pub mod read;
 pub mod sign;
+pub mod write;
 
 use css_tokens::{List, Text};
 
