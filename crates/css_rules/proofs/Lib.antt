@@ -3,3 +3,5 @@ pub mod SoughtLemmas
 pub mod DeclarationLemmas
 pub mod RefusalLemmas
 pub mod ReaderLemmas
+pub mod SelectorReading
+pub mod WritingLemmas

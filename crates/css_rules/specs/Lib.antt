@@ -6,3 +6,9 @@ pub mod Selectors
 pub mod Sheets
 pub mod Marks
 pub mod SelectorFaults
+pub mod BareSelectors
+pub mod Names
+pub mod SelectorSteps
+pub mod SelectorTexts
+pub mod Signs
+pub mod Writing

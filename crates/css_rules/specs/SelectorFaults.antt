@@ -1,9 +1,17 @@
--- Which fault of a selector list is named.
-use Rattle.std.specs.Prelude.{ℕ, List, ◌∷◌, ◌≡◌}
-use Rattle.css_rules.specs.declared.selector.SelectorFault.{SelectorFault}
-use Rattle.css_rules.specs.declared.selector.SelectorFault.TheVariants.{Syntax, Memory}
+-- What a refusal of a selector list says.
+use Rattle.std.specs.Prelude.{ℕ, List, [], ◌∷◌, ◌≡◌, Option, Some, None}
+use Rattle.css_rules.specs.declared.selector.read.SelectorFault.{SelectorFault}
+use Rattle.css_rules.specs.declared.selector.read.SelectorFault.TheVariants.{Syntax, Memory}
 
--- the first of the faults, unless memory ran out
+-- A refusal for want of memory may come at any time. Another one names the fault.
+abbrev pub FaultIs : SelectorFault → Option ℕ → Type 0
+FaultIs (Syntax at) fault = fault ≡ Some at
+FaultIs Memory fault = Unit {0}
+
+abbrev pub first_of : List ℕ → Option ℕ
+first_of [] = None
+first_of (at ∷ faults) = Some at
+
+-- A refusal names the first of these.
 abbrev pub IsFirstFault : SelectorFault → List ℕ → Type 0
-IsFirstFault (Syntax at) faults = (rest : List ℕ) × (faults ≡ at ∷ rest)
-IsFirstFault Memory faults = Unit {0}
+IsFirstFault e faults = FaultIs e (first_of faults)

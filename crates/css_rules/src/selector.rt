@@ -1,28 +1,8 @@
-ghost use Rattle.std.specs.Prelude.{◌≡◌, ◌∷◌, [], IfOk, IfErr, List, ℕ};
-ghost use Rattle.css_rules.specs.Selectors.{list_of, list_faults};
-ghost use Rattle.css_rules.specs.SelectorFaults.{IsFirstFault};
+pub mod read;
+pub mod sign;
+pub mod write;
 
-use css_tokens::{Component, List, Text};
-use std::alloc::Global;
-
-/// STUB
-#[derive(Debug, Drop)]
-pub enum SelectorFault {
-    Syntax(u32),
-    Memory,
-}
-
-/// STUB
-pub fn read_list<'a>(
-    alloc: Global,
-    prelude: &[Component<'a>],
-    end: u32,
-) -> Result<List<Selector<'a>>, SelectorFault>
-    ensures found { IfOk result (λ list. (list ≡ list_of prelude.now) × (list_faults prelude.now end ≡ [])) }
-    ensures fault { IfErr result (λ fault. IsFirstFault fault (list_faults prelude.now end)) }
-{
-    Err(SelectorFault::Memory)
-}
+use css_tokens::{List, Text};
 
 /// How the elements of two neighbouring compounds stand to each other (Selectors 4, section 14).
 #[derive(Clone, Copy, Debug, PartialEq, Eq)]

@@ -1,0 +1,63 @@
+-- Laws of writers that append.
+use Rattle.std.proofs.Common.{ℕ, List, [], ◌∷◌, ◌++◌, ◌≡◌, ◌<◌, ◌≤◌, ◌+◌, ◌-◌, suc, length, get_or, take, drop, refl, sym, ap, ◌∙◌, append_assoc, add-one, drop-cons}
+use Rattle.std.specs.Prelude.{Result, Ok, Err, OnErr}
+use Rattle.std.proofs.lemmas.List.{append-nil, length-drop}
+use Rattle.std.proofs.Math.Seq.{take-length}
+use Rattle.css_rules.specs.Writing.{IsWritten, IsBegun}
+
+pub start : (old text : List ℕ) → IsWritten old old text text
+start old text = record { part = []; written = sym (append-nil old); whole = refl }
+
+-- one more piece of a text
+pub more : {old new text rest new' : List ℕ} (a r : List ℕ) → IsWritten old new text rest → rest ≡ a ++ r → new' ≡ new ++ a → IsWritten old new' text r
+more {old} {new} {text} {rest} {new'} a r w cut e = record {
+  part = w.part ++ a;
+  written = e ∙ ap (λ (xs : List ℕ). xs ++ a) w.written ∙ append_assoc old w.part a;
+  whole = w.whole ∙ ap (λ (xs : List ℕ). w.part ++ xs) cut ∙ sym (append_assoc w.part a r);
+}
+
+-- the text is written
+pub finish : {old new text rest : List ℕ} → IsWritten old new text rest → rest ≡ [] → new ≡ old ++ text
+finish {old} {new} {text} {rest} w e = w.written ∙ ap (λ (xs : List ℕ). old ++ xs) (sym (w.whole ∙ ap (λ (xs : List ℕ). w.part ++ xs) e ∙ append-nil w.part))
+
+-- the last piece of a text
+pub last : {old new text rest new' : List ℕ} → IsWritten old new text rest → new' ≡ new ++ rest → new' ≡ old ++ text
+last {old} {new} {text} {rest} {new'} w e = e ∙ ap (λ (xs : List ℕ). xs ++ rest) w.written ∙ append_assoc old w.part rest ∙ ap (λ (xs : List ℕ). old ++ xs) (sym w.whole)
+
+-- a refusal within a piece
+pub within : {old new text rest new' : List ℕ} (a r : List ℕ) → IsWritten old new text rest → rest ≡ a ++ r → IsBegun new new' a → IsBegun old new' text
+within {old} {new} {text} {rest} {new'} a r w cut b = record {
+  rest = b.rest ++ r;
+  front = record {
+    part = w.part ++ b.front.part;
+    written = b.front.written ∙ ap (λ (xs : List ℕ). xs ++ b.front.part) w.written ∙ append_assoc old w.part b.front.part;
+    whole = w.whole ∙ ap (λ (xs : List ℕ). w.part ++ xs) (cut ∙ ap (λ (xs : List ℕ). xs ++ r) b.front.whole ∙ append_assoc b.front.part b.rest r) ∙ sym (append_assoc w.part b.front.part (b.rest ++ r));
+  };
+}
+
+-- a refusal within the last piece
+pub within_last : {old new text rest new' : List ℕ} → IsWritten old new text rest → IsBegun new new' rest → IsBegun old new' text
+within_last {old} {new} {text} {rest} {new'} w b = record {
+  rest = b.rest;
+  front = record {
+    part = w.part ++ b.front.part;
+    written = b.front.written ∙ ap (λ (xs : List ℕ). xs ++ b.front.part) w.written ∙ append_assoc old w.part b.front.part;
+    whole = w.whole ∙ ap (λ (xs : List ℕ). w.part ++ xs) b.front.whole ∙ sym (append_assoc w.part b.front.part b.rest);
+  };
+}
+
+pub on_err : {A E : Type 0} (r : Result A E) {P : Type 0} → P → OnErr r P
+on_err (Ok x) h = tt
+on_err (Err e) h = h
+
+-- the element of a loop, and those behind it
+pub at-item : {X : Type 0} (xs : List X) (i : ℕ) (x : X) → i < length xs → x ≡ get_or xs i x → drop i xs ≡ x ∷ drop (i + 1) xs
+at-item xs i x h e = rw add-one (drop-cons xs i x h ∙ ap (λ y. y ∷ drop (suc i) xs) (sym e))
+
+pub on_err_map : {A E : Type 0} (r : Result A E) {P Q : Type 0} → (P → Q) → OnErr r P → OnErr r Q
+on_err_map (Ok x) f h = tt
+on_err_map (Err e) f h = f h
+
+-- all behind the first element, as a pattern on a slice gives it
+pub rest-whole : {X : Type 0} (xs : List X) → take (length xs - 1) (drop 1 xs) ≡ drop 1 xs
+rest-whole xs = ap (λ n. take n (drop 1 xs)) (sym (length-drop 1 xs)) ∙ take-length (drop 1 xs)

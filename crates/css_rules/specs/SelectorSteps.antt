@@ -1,0 +1,130 @@
+-- A selector that is read from left to right, and the list in which it stands.
+use Rattle.std.specs.Prelude.{ℕ, List, [], ◌∷◌, ◌++◌, Option, Some, None, is_some, unwrap_or, if◌then◌else◌}
+use Rattle.std.specs.Option.{option_or}
+use Rattle.std.specs.List.{cons_option, filter_map}
+use Rattle.css_tokens.specs.declared.component.Component.{Component}
+use Rattle.css_rules.specs.declared.selector.Combinator.{Combinator}
+use Rattle.css_rules.specs.declared.selector.Combinator.TheVariants as combinators
+use Rattle.css_rules.specs.declared.selector.TypeName.{TypeName}
+use Rattle.css_rules.specs.declared.selector.TypeName.TheVariants as types
+use Rattle.css_rules.specs.declared.selector.Simple.{Simple}
+use Rattle.css_rules.specs.declared.selector.Simple.TheVariants as simples
+use Rattle.css_rules.specs.declared.selector.Compound.{Compound}
+use Rattle.css_rules.specs.declared.selector.Link.{Link}
+use Rattle.css_rules.specs.declared.selector.Selector.{Selector}
+use Rattle.css_rules.specs.declared.selector.sign.Sign.{Sign}
+use Rattle.css_rules.specs.declared.selector.sign.Sign.TheVariants.{Comment, White, Child, Next, Later, Name, Star, Dot, Id, Parent, Other}
+use Rattle.css_rules.specs.declared.selector.read.Front.{Front}
+use Rattle.css_rules.specs.declared.selector.read.Front.TheVariants.{Nothing, Joined}
+use Rattle.css_rules.specs.declared.selector.read.Reading.{Reading}
+use Rattle.css_rules.specs.declared.selector.read.Reading.TheVariants.{Due, Inside, Dotted, Behind, Failed}
+use Rattle.css_rules.specs.declared.selector.read.Pending.{Pending}
+use Rattle.css_rules.specs.Signs.{sign_of, place_of, is_gap}
+use Rattle.css_rules.specs.Selectors.{cut_at_commas, selector_of, fault_of}
+
+abbrev pub link : Combinator → Compound → Link
+link combinator compound = record { combinator = combinator; compound = compound }
+
+-- one more compound, and the combinator behind it
+abbrev pub joined : Front → Compound → Combinator → Front
+joined Nothing compound combinator = Joined compound [] combinator
+joined (Joined first rest before) compound combinator = Joined first (rest ++ link before compound ∷ []) combinator
+
+-- the selector of what was read, one more compound, and these links
+abbrev pub chained : ℕ → Front → Compound → List Link → Selector
+chained at Nothing compound links = record { lead = None; first = compound; rest = links; at = at }
+chained at (Joined first rest before) compound links = record { lead = None; first = first; rest = rest ++ link before compound ∷ links; at = at }
+
+abbrev pub of_type : TypeName → Compound
+of_type kind = record { kind = kind; parts = [] }
+
+abbrev pub with_simple : Compound → Simple → ℕ → Compound
+with_simple compound simple at = record { kind = compound.kind; parts = compound.parts ++ record { simple = simple; at = at } ∷ [] }
+
+abbrev pub on_type : TypeName → Reading → Reading
+on_type kind (Due front) = Inside front (of_type kind)
+on_type kind (Behind front compound) = Inside (joined front compound combinators.Descendant) (of_type kind)
+on_type kind (Inside front compound) = Failed
+on_type kind (Dotted front compound at) = Failed
+on_type kind Failed = Failed
+
+abbrev pub on_name : List ℕ → Reading → Reading
+on_name name (Dotted front compound at) = Inside front (with_simple compound (simples.Class name) at)
+on_name name (Due front) = on_type (types.Name name) (Due front)
+on_name name (Behind front compound) = on_type (types.Name name) (Behind front compound)
+on_name name (Inside front compound) = Failed
+on_name name Failed = Failed
+
+abbrev pub on_dot : ℕ → Reading → Reading
+on_dot at (Due front) = Dotted front (of_type types.None) at
+on_dot at (Inside front compound) = Dotted front compound at
+on_dot at (Behind front compound) = Dotted (joined front compound combinators.Descendant) (of_type types.None) at
+on_dot at (Dotted front compound dot) = Failed
+on_dot at Failed = Failed
+
+abbrev pub on_part : Simple → ℕ → Reading → Reading
+on_part simple at (Due front) = Inside front (with_simple (of_type types.None) simple at)
+on_part simple at (Inside front compound) = Inside front (with_simple compound simple at)
+on_part simple at (Behind front compound) = Inside (joined front compound combinators.Descendant) (with_simple (of_type types.None) simple at)
+on_part simple at (Dotted front compound dot) = Failed
+on_part simple at Failed = Failed
+
+abbrev pub on_white : Reading → Reading
+on_white (Due front) = Due front
+on_white (Inside front compound) = Behind front compound
+on_white (Behind front compound) = Behind front compound
+on_white (Dotted front compound at) = Failed
+on_white Failed = Failed
+
+abbrev pub on_combinator : Combinator → Reading → Reading
+on_combinator combinator (Inside front compound) = Due (joined front compound combinator)
+on_combinator combinator (Behind front compound) = Due (joined front compound combinator)
+on_combinator combinator (Due front) = Failed
+on_combinator combinator (Dotted front compound at) = Failed
+on_combinator combinator Failed = Failed
+
+-- what one more sign makes of a reading
+abbrev pub step : Sign → Reading → Reading
+step Comment reading = reading
+step White reading = on_white reading
+step Child reading = on_combinator combinators.Child reading
+step Next reading = on_combinator combinators.Next reading
+step Later reading = on_combinator combinators.Later reading
+step (Name name) reading = on_name name reading
+step Star reading = on_type types.Universal reading
+step (Dot at) reading = on_dot at reading
+step (Id name at) reading = on_part (simples.Id name) at reading
+step (Parent at) reading = on_part simples.Parent at reading
+step Other reading = Failed
+
+-- the selector, where the reading may end here
+abbrev pub concluded : ℕ → Reading → Option Selector
+concluded at (Inside front compound) = Some (chained at front compound [])
+concluded at (Behind front compound) = Some (chained at front compound [])
+concluded at (Due front) = None
+concluded at (Dotted front compound dot) = None
+concluded at Failed = None
+
+abbrev pub fresh : Pending
+fresh = record { reading = Due Nothing; place = None }
+
+abbrev pub pending_step : Pending → Component → Pending
+pending_step p c = record { reading = step (sign_of c) p.reading; place = option_or p.place (if is_gap c then None else Some (place_of c)) }
+
+abbrev pub pending_run : Pending → List Component → Pending
+pending_run p [] = p
+pending_run p (c ∷ cs) = pending_run (pending_step p c) cs
+
+abbrev pub pending_selector : Pending → Option Selector
+pending_selector p = concluded (unwrap_or p.place 0) p.reading
+
+abbrev pub pending_fault : Pending → ℕ → Option ℕ
+pending_fault p stop = if is_some (pending_selector p) then None else Some (unwrap_or p.place stop)
+
+-- the selectors of a list whose first member has begun with what is pending
+abbrev pub list_from : Pending → List Component → List Selector
+list_from p cs = cons_option (pending_selector (pending_run p (cut_at_commas cs).0.components)) (filter_map (λ m. selector_of m.components) (cut_at_commas cs).1)
+
+-- the same of its refusals
+abbrev pub faults_from : Pending → List Component → ℕ → List ℕ
+faults_from p cs end = cons_option (pending_fault (pending_run p (cut_at_commas cs).0.components) (unwrap_or (cut_at_commas cs).0.stop end)) (filter_map (fault_of end) (cut_at_commas cs).1)
