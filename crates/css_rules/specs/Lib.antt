@@ -12,3 +12,4 @@ pub mod SelectorSteps
 pub mod SelectorTexts
 pub mod Signs
 pub mod Writing
+pub mod Runs

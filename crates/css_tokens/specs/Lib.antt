@@ -2,3 +2,4 @@ pub mod formers
 pub mod Piece
 pub mod Texts
 pub mod Trees
+pub mod Values

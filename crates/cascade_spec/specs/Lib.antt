@@ -1,0 +1,6 @@
+pub mod Lines
+pub mod Specificities
+pub mod Matching
+pub mod Layers
+pub mod Entries
+pub mod Cascade
