@@ -1,0 +1,5 @@
+pub mod Names
+pub mod Counts
+pub mod Reading
+pub mod Putting
+pub mod Spaces

@@ -1,0 +1,12 @@
+// Files and outputs that lie in memory, which tell what they hold.
+mod find;
+mod memory_files;
+mod memory_outbox;
+mod space;
+mod sure_files;
+#[cfg(test)]
+mod tests;
+
+pub use memory_files::MemoryFiles;
+pub use memory_outbox::MemoryOutbox;
+pub use sure_files::SureFiles;

@@ -1,0 +1,68 @@
+ghost use Rattle.std.specs.Prelude.{◌≡◌, [], map, IsTrue, Some};
+ghost use Rattle.css_outside.specs.Names.{are_distinct, named};
+
+use super::sure_files::SureFiles;
+use crate::{Files, FilesFault};
+use css_tokens::{List, Text};
+use std::alloc::Global;
+
+/// Files in memory, of which reads can be made to fail. They tell what they hold.
+#[derive(Debug, Drop)]
+pub struct MemoryFiles<'a> {
+    files: SureFiles<'a>,
+    failing: List<u32>,
+    reads: u32,
+    faults: u64,
+}
+
+impl<'a> MemoryFiles<'a> {
+    /// Files of the given paths, which are distinct, and bytes. The reads whose numbers, from 1 on, stand in `failing`
+    /// fail. Takes no memory.
+    pub fn new(
+        alloc: Global,
+        files: List<(Text<'a>, List<u8>)>,
+        failing: List<u32>,
+    ) -> MemoryFiles<'a>
+        requires { IsTrue (are_distinct (map (λ file. file.0) files)) }
+        ensures told { ⟦<MemoryFiles<'a> as Files>⟧.told result ≡ Some (named files.entry) }
+        ensures asked { ⟦<MemoryFiles<'a> as Files>⟧.asked result ≡ [] }
+        ensures count { ⟦<MemoryFiles<'a> as Files>⟧.faults result ≡ 0 }
+    {
+        MemoryFiles {
+            files: SureFiles::new(alloc, files),
+            failing,
+            reads: 0,
+            faults: 0,
+        }
+    }
+
+    /// The paths that were asked so far, in order.
+    pub fn paths_asked(&self) -> &[Text<'a>]
+        ensures { result.now ≡ ⟦<MemoryFiles<'a> as Files>⟧.asked self.now }
+    {
+        self.files.paths_asked()
+    }
+}
+
+impl<'a> Files for MemoryFiles<'a> {
+    ghost told = { λ all. ⟦<SureFiles<'a> as Files>⟧.told all.files };
+
+    ghost asked = { λ all. ⟦<SureFiles<'a> as Files>⟧.asked all.files };
+
+    ghost faults = { λ all. all.faults };
+
+    fn read(
+        &mut self,
+        alloc: Global,
+        path: &str,
+        most: u32,
+    ) -> Result<Option<List<u8>>, FilesFault> {
+        self.reads = self.reads.saturating_add(1);
+        if self.failing.as_slice().contains(&self.reads) {
+            self.files.note(alloc, path)?;
+            self.faults = self.faults.saturating_add(1);
+            return Err(FilesFault::Failed);
+        }
+        self.files.read(alloc, path, most)
+    }
+}
