@@ -1,9 +1,11 @@
 //! Tokens and component values of CSS text (CSS Syntax 3), and the lists and texts that the other crates share.
 #![tactic(auto)]
 
+mod class;
 mod component;
 mod kind;
 mod list;
+mod machine;
 mod memory;
 mod text;
 mod token;
