@@ -4,7 +4,8 @@ use Rattle.css_tokens.specs.declared.kind.Kind.{Kind}
 use Rattle.css_tokens.specs.declared.kind.Kind.TheVariants as kind
 use Rattle.css_tokens.specs.declared.class.Class.{Class}
 use Rattle.css_tokens.specs.declared.class.Class.TheVariants as class
-use Rattle.css_tokens.specs.Characters.{has, white, name_start, name, sign, in_string, in_url, delim}
+use Rattle.std.specs.List.{list_any}
+use Rattle.css_tokens.specs.Characters.{has, is_class, white, name_start, name, sign, in_string, in_url, delim}
 use Rattle.css_tokens.specs.Patterns.{Pattern, Empty, One, Many, Closed, ◌∣◌, ◌⋅◌, optional, some, fits}
 
 -- one character of this class
@@ -100,10 +101,13 @@ table =
 abbrev pub url_table : List Row
 url_table = row kind.Url url_inside ∷ []
 
--- does the text begin with a character of the set?
+-- does the text begin with this character, or with one of the set?
+abbrev pub starts : List Class → Class → Bool
+starts [] c = false
+starts (x ∷ s) c = is_class c x
+
 abbrev pub begins : List Class → List Class → Bool
-begins set [] = false
-begins set (x ∷ s) = has set x
+begins set s = list_any (starts s) set
 
 -- the kind of a text that stands before the text after
 abbrev pub kind_of : List Row → List Class → List Class → Option Kind

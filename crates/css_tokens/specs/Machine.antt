@@ -1,5 +1,5 @@
 -- The machine that reads one token: its states, as what is left of the rows of the table once a text has been read.
-use Rattle.std.specs.Prelude.{List, [], ◌∷◌, Bool, true, false, ◌||◌, ◌&&◌, map, Option, Some, None, if◌then◌else◌}
+use Rattle.std.specs.Prelude.{List, [], ◌∷◌, Bool, true, false, ◌||◌, ◌&&◌, not, map, Option, Some, None, if◌then◌else◌}
 use lib.Pointwise.{pointwise}
 use Rattle.css_tokens.specs.declared.kind.Kind.{Kind}
 use Rattle.css_tokens.specs.declared.kind.Kind.TheVariants as kind
@@ -386,7 +386,7 @@ next state.Dead c = state.Dead
 
 -- the kind of what has been read, before this text
 abbrev pub ended : State → List Class → Option Kind
-ended state.Slash after = if begins (class.Star ∷ []) after then None else Some kind.Delim
+ended state.Slash after = if not (begins (class.Star ∷ []) after) then Some kind.Delim else None
 ended state.White after = Some kind.White
 ended state.Minus after = Some kind.Delim
 ended state.MinusMinus after = Some kind.Ident

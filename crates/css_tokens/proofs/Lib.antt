@@ -1,0 +1,2 @@
+pub mod Derivatives
+pub mod MachineRows
