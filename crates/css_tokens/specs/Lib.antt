@@ -5,4 +5,5 @@ pub mod Machine
 pub mod Patterns
 pub mod Piece
 pub mod Texts
+pub mod Tokens
 pub mod Trees

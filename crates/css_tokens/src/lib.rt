@@ -7,6 +7,7 @@ mod kind;
 mod list;
 mod machine;
 mod memory;
+mod reader;
 mod text;
 mod token;
 
