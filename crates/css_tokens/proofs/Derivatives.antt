@@ -95,10 +95,10 @@ or_right false b h = h
 holds-fits : (p q : Pattern) (s : List Class) → holds p q ≡ true → fits q s ≡ true → fits p s ≡ true
 holds-fits (Either a b) q s h f =
     elim (or_cases (is_pattern (Either a b) q) (holds a q || holds b q) h) [
-      inl e ↦ same_fits (Either a b) q s e f
-    | inr e ↦ elim (or_cases (holds a q) (holds b q) e) [
-        inl i ↦ or_left (fits a s) (fits b s) (holds-fits a q s i f)
-      | inr i ↦ or_right (fits a s) (fits b s) (holds-fits b q s i f)
+      | inl e ↦ same_fits (Either a b) q s e f
+      | inr e ↦ elim (or_cases (holds a q) (holds b q) e) [
+        | inl i ↦ or_left (fits a s) (fits b s) (holds-fits a q s i f)
+        | inr i ↦ or_right (fits a s) (fits b s) (holds-fits b q s i f)
       ]
     ]
 holds-fits Never q s h f = same_fits Never q s h f
@@ -111,12 +111,12 @@ holds-fits (Closed b) q s h f = same_fits (Closed b) q s h f
 fits-either : (p q : Pattern) (s : List Class) → fits (either p q) s ≡ (fits p s || fits q s)
 fits-either p q s =
     elim (cases_Bool (is_never p)) [
-      inl e ↦ rw e (rw (is_never-eq p e))
-    | inr e ↦ rw e (elim (cases_Bool (is_never q)) [
-        inl f ↦ rw f (or_false (fits p s) ∙ ap (λ r. fits p s || fits r s) (sym (is_never-eq q f)))
-      | inr f ↦ rw f (elim (cases_Bool (holds p q)) [
-          inl g ↦ rw g (absorbed (fits p s) (fits q s) (holds-fits p q s g))
-        | inr g ↦ rw g
+      | inl e ↦ rw e (rw (is_never-eq p e))
+      | inr e ↦ rw e (elim (cases_Bool (is_never q)) [
+        | inl f ↦ rw f (or_false (fits p s) ∙ ap (λ r. fits p s || fits r s) (sym (is_never-eq q f)))
+        | inr f ↦ rw f (elim (cases_Bool (holds p q)) [
+          | inl g ↦ rw g (absorbed (fits p s) (fits q s) (holds-fits p q s g))
+          | inr g ↦ rw g
         ])
       ])
     ]
@@ -132,10 +132,10 @@ any_cut-empty rest (x ∷ s) = ap (λ b. rest (x ∷ s) || b) (any_cut-never res
 fits-followed : (p q : Pattern) (s : List Class) → fits (followed p q) s ≡ any_cut (fits p) (fits q) s
 fits-followed p q s =
     elim (cases_Bool (is_never p)) [
-      inl e ↦ rw e (sym (ap (λ r. any_cut (fits r) (fits q) s) (is_never-eq p e) ∙ any_cut-never (fits q) s))
-    | inr e ↦ rw e (elim (cases_Bool (is_blank p)) [
-        inl f ↦ rw f (sym (ap (λ r. any_cut (fits r) (fits q) s) (is_blank-eq p f) ∙ any_cut-empty (fits q) s))
-      | inr f ↦ rw f
+      | inl e ↦ rw e (sym (ap (λ r. any_cut (fits r) (fits q) s) (is_never-eq p e) ∙ any_cut-never (fits q) s))
+      | inr e ↦ rw e (elim (cases_Bool (is_blank p)) [
+        | inl f ↦ rw f (sym (ap (λ r. any_cut (fits r) (fits q) s) (is_blank-eq p f) ∙ any_cut-empty (fits q) s))
+        | inr f ↦ rw f
       ])
     ]
 
@@ -163,7 +163,7 @@ fits-derive x (Either p q) s = ap₂ ◌||◌ (fits-derive x p s) (fits-derive x
 fits-derive x (Then p q) s =
     or_swap (fits p [] && fits q (x ∷ s)) (any_cut (λ t. fits p (x ∷ t)) (fits q) s)
     ∙ ap₂ ◌||◌ (ap (λ f. any_cut f (fits q) s) (fun_ext (fits-derive x p)) ∙ sym (fits-followed (derive x p) q s))
-      (ap (λ b. fits p [] && b) (fits-derive x q s) ∙ fits-if (fits p []) (derive x q) s)
+    (ap (λ b. fits p [] && b) (fits-derive x q s) ∙ fits-if (fits p []) (derive x q) s)
     ∙ sym (fits-either (followed (derive x p) q) (if fits p [] then derive x q else Never) s)
 fits-derive x (Closed starred) s = fits-if_else (starred && is_class x class.Slash) (has in_text x) Empty (Closed (is_class x class.Star)) s
 
@@ -175,6 +175,6 @@ pub kind_of-derived : (x : Class) (rows : List Row) (s after : List Class) → k
 kind_of-derived x [] s after = refl
 kind_of-derived x (r ∷ rows) s after =
     elim (cases_Bool (is_never (derive x r.pattern))) [
-      inl e ↦ rw e (ap (λ b. if b && not (begins r.barred after) then Some r.kind else kind_of rows (x ∷ s) after) (fits-derive x r.pattern s ∙ never_fits (derive x r.pattern) s e) ∙ kind_of-derived x rows s after)
-    | inr e ↦ rw e (ap₂ (λ (b : Bool) (k : Option Kind). if b && not (begins r.barred after) then Some r.kind else k) (fits-derive x r.pattern s) (kind_of-derived x rows s after))
+      | inl e ↦ rw e (ap (λ b. if b && not (begins r.barred after) then Some r.kind else kind_of rows (x ∷ s) after) (fits-derive x r.pattern s ∙ never_fits (derive x r.pattern) s e) ∙ kind_of-derived x rows s after)
+      | inr e ↦ rw e (ap₂ (λ (b : Bool) (k : Option Kind). if b && not (begins r.barred after) then Some r.kind else k) (fits-derive x r.pattern s) (kind_of-derived x rows s after))
     ]

@@ -24,8 +24,8 @@ longest_in-nil s = ap (option_map (as_front 0)) (sym (ended-kind_of s []))
 pub longest_in-step : (s : State) (x : Class) (t : List Class) → longest_in s (x ∷ t) ≡ or_else (option_map (longer 1) (longest_in (next s x) t)) (option_map (as_front 0) (ended s (x ∷ t)))
 longest_in-step s x t =
     ap₂ (λ (a b : Option (Kind × ℕ)). or_else (option_map (longer 1) a) b)
-      (ap (λ f. longest f t) (fun_ext (λ front. fun_ext (λ after. kind_of-derived x (rows s) front after ∙ ap (λ r. kind_of r front after) (sym (rows-next s x))))))
-      (ap (option_map (as_front 0)) (sym (ended-kind_of s (x ∷ t))))
+    (ap (λ f. longest f t) (fun_ext (λ front. fun_ext (λ after. kind_of-derived x (rows s) front after ∙ ap (λ r. kind_of r front after) (sym (rows-next s x))))))
+    (ap (option_map (as_front 0)) (sym (ended-kind_of s (x ∷ t))))
 
 pub longest_in-dead : (t : List Class) → longest_in state.Dead t ≡ None
 longest_in-dead [] = refl
@@ -62,8 +62,8 @@ pub read_turn : (s s' : State) (text : List ℕ) (i : ℕ) (best best' all : Opt
 read_turn s s' text i best best' all here x h before e f g j =
     before ∙ read_more s text i best h
     ∙ ap₂ (λ (t : State) (b : Option (Kind × ℕ)). after_best (i + 1) (longest_in t (classes_of (drop (i + 1) text))) b)
-      (sym (j ∙ ap (next s) g))
-      (sym (f ∙ ap (λ k. or_else (option_map (as_front i) k) best) (e ∙ ap (λ t. ended s (classes_of t)) (take_rest text i))))
+    (sym (j ∙ ap (next s) g))
+    (sym (f ∙ ap (λ k. or_else (option_map (as_front i) k) best) (e ∙ ap (λ t. ended s (classes_of t)) (take_rest text i))))
 
 -- and where nothing can follow
 pub read_end : (s : State) (n : ℕ) (t : List Class) (best all : Option (Kind × ℕ)) → s ≡ state.Dead → all ≡ after_best n (longest_in s t) best → best ≡ all

@@ -1,3 +1,4 @@
 pub mod Derivatives
 pub mod Fronts
 pub mod MachineRows
+pub mod Reading

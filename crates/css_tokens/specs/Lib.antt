@@ -1,4 +1,5 @@
 pub mod Characters
+pub mod Faults
 pub mod formers
 pub mod Kinds
 pub mod Machine

@@ -1,5 +1,5 @@
 -- The tokens of a text: what its first token is, what its tokens are, and where reading stops.
-use Rattle.std.specs.Prelude.{ℕ, ◌+◌, List, [], ◌∷◌, ◌++◌, map, length, take, drop, ◌≡◌, ◌⊎◌, Bool, true, false, ◌&&◌, ◌||◌, not, Option, Some, None, MatchOption, codes, nat_eq, nat_lt, if◌then◌else◌}
+use Rattle.std.specs.Prelude.{ℕ, ◌+◌, ◌<◌, ◌≤◌, List, [], ◌∷◌, ◌++◌, map, length, take, drop, ◌≡◌, ◌⊎◌, Bool, true, false, ◌&&◌, ◌||◌, not, Option, Some, None, MatchOption, codes, nat_eq, nat_lt, if◌then◌else◌}
 use Rattle.std.specs.List.{list_all, position}
 use Rattle.std.specs.Option.{option_map, option_and_then}
 use Rattle.std.specs.Char.{to_ascii_lowercase}
@@ -91,12 +91,23 @@ is_control b = is_class class.Control (class_of b)
 abbrev pub Stops : List ℕ → Type 0
 Stops text = IsStuck text ⊎ ((w : Word) × First text w × (is_refused w.kind ≡ true))
 
+-- the place behind the words that are read, where reading can't go on
+abbrev pub StopsReading : List ℕ → ℕ → Type 0
+StopsReading text o = (words : List Word) × (rest : List ℕ) × ReadsTo text words rest × Stops rest × (o ≡ length (spelled words))
+
 -- where a text has no reading: at its first control character, or else where reading can't go on
 abbrev pub StopsAt : List ℕ → ℕ → Type 0
 StopsAt text o =
     MatchOption (position is_control text)
-    ((words : List Word) × (rest : List ℕ) × ReadsTo text words rest × Stops rest × (o ≡ length (spelled words)))
+    (StopsReading text o)
     (λ place. o ≡ place)
+
+-- the piece is the first token of the text, it is read, and it is not empty
+pub record Begins (text : List ℕ) (p : Piece) : Type 0 where
+  pub first : First text (word_of p)
+  pub read : is_refused p.kind ≡ false
+  pub whole : length p.text ≤ length text
+  pub some : 0 < length p.text
 
 -- is it ASCII, with no escape?
 abbrev pub is_plain : List ℕ → Bool

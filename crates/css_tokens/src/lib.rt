@@ -15,5 +15,6 @@ pub use component::{Block, Component};
 pub use kind::Kind;
 pub use list::List;
 pub use memory::OutOfMemory;
+pub use reader::{TokenFault, tokens};
 pub use text::Text;
 pub use token::Token;
