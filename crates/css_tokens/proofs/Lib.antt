@@ -1,4 +1,5 @@
 pub mod Derivatives
 pub mod Fronts
 pub mod MachineRows
+pub mod OneReading
 pub mod Reading

@@ -4,6 +4,7 @@
 mod class;
 mod component;
 mod kind;
+mod laws;
 mod list;
 mod machine;
 mod memory;
@@ -13,6 +14,7 @@ mod token;
 
 pub use component::{Block, Component};
 pub use kind::Kind;
+pub use laws::one_reading;
 pub use list::List;
 pub use memory::OutOfMemory;
 pub use reader::{TokenFault, tokens};
