@@ -3,3 +3,5 @@ pub mod Fronts
 pub mod MachineRows
 pub mod OneReading
 pub mod Reading
+pub mod Runs
+pub mod Spelling

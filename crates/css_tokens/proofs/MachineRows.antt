@@ -11,35 +11,14 @@ use Rattle.css_tokens.specs.declared.machine.State.{State}
 use Rattle.css_tokens.specs.declared.machine.State.TheVariants as state
 use Rattle.css_tokens.specs.Characters.{classes, place_of}
 use Rattle.css_tokens.specs.Patterns.{Pattern}
-use Rattle.css_tokens.specs.Kinds.{Row, kind_of, begins}
+use Rattle.css_tokens.specs.Kinds.{Row, kind_of, begins, place_of_kind}
 use Rattle.css_tokens.specs.Machine.{is_set, is_pattern, derived, rows, next, ended}
 use Rattle.css_tokens.proofs.Derivatives.{is_set-eq, is_pattern-eq}
 
 kinds : List Kind
 kinds = kind.White ∷ kind.Comment ∷ kind.Ident ∷ kind.Function ∷ kind.Url ∷ kind.At ∷ kind.Hash ∷ kind.String ∷ kind.Number ∷ kind.Percentage ∷ kind.Dimension ∷ kind.Colon ∷ kind.Semicolon ∷ kind.Comma ∷ kind.Open ∷ kind.Close ∷ kind.Delim ∷ kind.Cdo ∷ kind.Cdc ∷ []
 
-abbrev kind_place : Kind → ℕ
-kind_place kind.White = 0
-kind_place kind.Comment = 1
-kind_place kind.Ident = 2
-kind_place kind.Function = 3
-kind_place kind.Url = 4
-kind_place kind.At = 5
-kind_place kind.Hash = 6
-kind_place kind.String = 7
-kind_place kind.Number = 8
-kind_place kind.Percentage = 9
-kind_place kind.Dimension = 10
-kind_place kind.Colon = 11
-kind_place kind.Semicolon = 12
-kind_place kind.Comma = 13
-kind_place kind.Open = 14
-kind_place kind.Close = 15
-kind_place kind.Delim = 16
-kind_place kind.Cdo = 17
-kind_place kind.Cdc = 18
-
-kind_at : (k : Kind) → get_or kinds (kind_place k) kind.White ≡ k
+kind_at : (k : Kind) → get_or kinds (place_of_kind k) kind.White ≡ k
 unfolding kinds
 kind_at kind.White = refl
 kind_at kind.Comment = refl
@@ -61,18 +40,18 @@ kind_at kind.Delim = refl
 kind_at kind.Cdo = refl
 kind_at kind.Cdc = refl
 
-is_kind-eq : (a b : Kind) → nat_eq (kind_place a) (kind_place b) ≡ true → a ≡ b
-is_kind-eq a b h = sym (kind_at a) ∙ ap (λ n. get_or kinds n kind.White) (eqb-true (kind_place a) (kind_place b) h) ∙ kind_at b
+is_kind-eq : (a b : Kind) → nat_eq (place_of_kind a) (place_of_kind b) ≡ true → a ≡ b
+is_kind-eq a b h = sym (kind_at a) ∙ ap (λ n. get_or kinds n kind.White) (eqb-true (place_of_kind a) (place_of_kind b) h) ∙ kind_at b
 
 abbrev is_row : Row → Row → Bool
-is_row a b = nat_eq (kind_place a.kind) (kind_place b.kind) && (is_pattern a.pattern b.pattern && is_set a.barred b.barred)
+is_row a b = nat_eq (place_of_kind a.kind) (place_of_kind b.kind) && (is_pattern a.pattern b.pattern && is_set a.barred b.barred)
 
 abbrev row_of : Kind → Pattern → List Class → Row
 row_of k p b = record { kind = k; pattern = p; barred = b }
 
 is_row-eq : (a b : Row) → is_row a b ≡ true → a ≡ b
 is_row-eq a b h =
-    let p = and_parts (nat_eq (kind_place a.kind) (kind_place b.kind)) (is_pattern a.pattern b.pattern && is_set a.barred b.barred) h in
+    let p = and_parts (nat_eq (place_of_kind a.kind) (place_of_kind b.kind)) (is_pattern a.pattern b.pattern && is_set a.barred b.barred) h in
     let q = and_parts (is_pattern a.pattern b.pattern) (is_set a.barred b.barred) p.1 in
     ap (λ k. row_of k a.pattern a.barred) (is_kind-eq a.kind b.kind p.0)
     ∙ ap (λ r. row_of b.kind r a.barred) (is_pattern-eq a.pattern b.pattern q.0)

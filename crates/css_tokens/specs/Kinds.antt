@@ -1,5 +1,5 @@
 -- The table of the kinds of tokens (CSS Syntax 3, section 4).
-use Rattle.std.specs.Prelude.{List, [], ◌∷◌, Bool, false, true, ◌||◌, ◌&&◌, not, Option, Some, None, if◌then◌else◌}
+use Rattle.std.specs.Prelude.{ℕ, nat_eq, List, [], ◌∷◌, Bool, false, true, ◌||◌, ◌&&◌, not, Option, Some, None, if◌then◌else◌}
 use Rattle.css_tokens.specs.declared.kind.Kind.{Kind}
 use Rattle.css_tokens.specs.declared.kind.Kind.TheVariants as kind
 use Rattle.css_tokens.specs.declared.class.Class.{Class}
@@ -113,3 +113,28 @@ begins set s = list_any (starts s) set
 abbrev pub kind_of : List Row → List Class → List Class → Option Kind
 kind_of [] text after = None
 kind_of (r ∷ rows) text after = if fits r.pattern text && not (begins r.barred after) then Some r.kind else kind_of rows text after
+
+-- the place of a kind among all kinds
+abbrev pub place_of_kind : Kind → ℕ
+place_of_kind kind.White = 0
+place_of_kind kind.Comment = 1
+place_of_kind kind.Ident = 2
+place_of_kind kind.Function = 3
+place_of_kind kind.Url = 4
+place_of_kind kind.At = 5
+place_of_kind kind.Hash = 6
+place_of_kind kind.String = 7
+place_of_kind kind.Number = 8
+place_of_kind kind.Percentage = 9
+place_of_kind kind.Dimension = 10
+place_of_kind kind.Colon = 11
+place_of_kind kind.Semicolon = 12
+place_of_kind kind.Comma = 13
+place_of_kind kind.Open = 14
+place_of_kind kind.Close = 15
+place_of_kind kind.Delim = 16
+place_of_kind kind.Cdo = 17
+place_of_kind kind.Cdc = 18
+
+abbrev pub is_kind : Kind → Kind → Bool
+is_kind a b = nat_eq (place_of_kind a) (place_of_kind b)

@@ -9,7 +9,8 @@ use Rattle.css_tokens.specs.declared.kind.Kind.TheVariants as kind
 use Rattle.css_tokens.specs.declared.class.Class.{Class}
 use Rattle.css_tokens.specs.declared.class.Class.TheVariants as class
 use Rattle.css_tokens.specs.Characters.{class_of, has, is_class, white}
-use Rattle.css_tokens.specs.Kinds.{Row, table, url_table, kind_of}
+use Rattle.css_tokens.specs.Kinds.{Row, table, url_table, url_inside, kind_of, is_kind}
+use Rattle.css_tokens.specs.Patterns.{fits}
 use Rattle.css_tokens.specs.Piece.{Piece, Word, word_of, spelled}
 
 abbrev pub classes_of : List ℕ → List Class
@@ -64,6 +65,14 @@ First text w = option_map (word text) (first_front text) ≡ Some w
 abbrev pub IsStuck : List ℕ → Type 0
 IsStuck [] = ⊥
 IsStuck (b ∷ text) = first_front (b ∷ text) ≡ None
+
+abbrev pub names : Kind → Option Kind → Bool
+names k None = false
+names k (Some j) = is_kind k j
+
+-- does the text spell the kind, what follows it aside? By the table, or as a Url: `url(` and its inside
+unfoldable pub spells : Kind → List ℕ → Bool
+spells k text = names k (kind_of table (classes_of text) []) || (is_kind k kind.Url && (is_url (take 4 text) && fits url_inside (classes_of (drop 4 text))))
 
 -- `<!--` and `-->` are spelled, and not read
 abbrev pub is_refused : Kind → Bool

@@ -125,7 +125,7 @@ fn next_token<'a>(text: &'a str, at: u32) -> Option<Token<'a>>
         return None;
     }
     let (text, _) = text.split_at(length);
-    Some(Token { kind, text, at })
+    Some(Token::new(kind, text, at))
 }
 
 /// Whether this is `<!--` or `-->`.
