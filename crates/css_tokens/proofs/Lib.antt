@@ -1,5 +1,6 @@
 pub mod Derivatives
 pub mod Fronts
+pub mod Kept
 pub mod MachineRows
 pub mod OneReading
 pub mod Reading

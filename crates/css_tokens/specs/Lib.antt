@@ -1,3 +1,4 @@
+pub mod Again
 pub mod Characters
 pub mod Faults
 pub mod formers
