@@ -1,4 +1,5 @@
 pub mod Derivatives
+pub mod Firsts
 pub mod Fronts
 pub mod Kept
 pub mod MachineRows
