@@ -58,11 +58,11 @@ as_url w a h =
     let l : m ≡ length w.text = omega (arith, length-append h.name h.inside, ap length h.whole) in
     let u : take m t ≡ w.text = ap₂ take l (sym s) ∙ take-append_seam w.text a in
     subst (λ x. First x w) (sym s)
-      (ap (λ o. option_map (word t) (option_and_then (url_rule t) o)) h.found
-      ∙ ap (option_map (word t)) (rule_by t f true e)
-      ∙ ap (λ x. option_map (word t) (option_map (longer n) (longest_in state.UrlStart (classes_of x)))) (drop-append_seam h.name (h.inside ++ a))
-      ∙ ap (λ o. option_map (word t) (option_map (longer n) o)) h.closed
-      ∙ ap (λ x. Some (word_from w.kind x)) u)
+    (ap (λ o. option_map (word t) (option_and_then (url_rule t) o)) h.found
+    ∙ ap (option_map (word t)) (rule_by t f true e)
+    ∙ ap (λ x. option_map (word t) (option_map (longer n) (longest_in state.UrlStart (classes_of x)))) (drop-append_seam h.name (h.inside ++ a))
+    ∙ ap (λ o. option_map (word t) (option_map (longer n) o)) h.closed
+    ∙ ap (λ x. Some (word_from w.kind x)) u)
 
 table_case : (w : Word) (a : List ℕ) (f : Kind × ℕ) → longest_in state.Start (classes_of (w.text ++ a)) ≡ Some f → is_ruled (take f.1 (w.text ++ a)) (drop f.1 (w.text ++ a)) ≡ false → word (w.text ++ a) f ≡ w → ByTable w a
 table_case w a f h e i =
@@ -89,7 +89,9 @@ url_case w a f i h e g j =
     let s : t ≡ name ++ (inside ++ a) = ap (λ x. x ++ a) (sym u) ∙ append_assoc name inside a in
     let r : drop f.1 t ≡ inside ++ a = ap₂ drop l s ∙ drop-append_seam name (inside ++ a) in
     record {
-      kind = f.0; name = name; inside = inside;
+      kind = f.0;
+      name = name;
+      inside = inside;
       whole = sym u;
       found = ap (λ x. longest_in state.Start (classes_of x)) (sym s) ∙ h ∙ ap (λ n. Some (f.0, n)) l;
       ruled = ap (is_ruled name) (sym r) ∙ e;
@@ -102,10 +104,10 @@ first_cases w a h =
     let m = mapped (word t) (first_front t) w h in
     let c = chained (url_rule t) (front_of table t) m.0 m.1 in
     elim (cases_Bool (is_ruled (take c.0.1 t) (drop c.0.1 t))) [
-      inl e ↦
-        let i = mapped (longer c.0.1) (front_of url_table (drop c.0.1 t)) m.0 (sym (rule_by t c.0 true e) ∙ c.2) in
-        inr (url_case w a c.0 i.0 (c.1) e i.1 (ap (word t) i.2 ∙ m.2))
-    | inr e ↦
-        let i = same_inside c.0 m.0 (sym (rule_by t c.0 false e) ∙ c.2) in
-        inl (table_case w a c.0 c.1 e (ap (word t) i ∙ m.2))
+      | inl e ↦
+          let i = mapped (longer c.0.1) (front_of url_table (drop c.0.1 t)) m.0 (sym (rule_by t c.0 true e) ∙ c.2) in
+          inr (url_case w a c.0 i.0 (c.1) e i.1 (ap (word t) i.2 ∙ m.2))
+      | inr e ↦
+          let i = same_inside c.0 m.0 (sym (rule_by t c.0 false e) ∙ c.2) in
+          inl (table_case w a c.0 c.1 e (ap (word t) i ∙ m.2))
     ]

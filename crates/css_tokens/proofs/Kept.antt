@@ -163,18 +163,18 @@ calm_ended s after h = refl
 bang_behind : (s : State) (t : List Class) → is_calm s ≡ true → starts t class.Minus ≡ false → longest_in (next s class.Bang) t ≡ None
 bang_behind s t h k =
     elim (bang_next s h) [
-      inl e ↦ ap (λ r. longest_in r t) e ∙ longest_in-dead t
-    | inr e ↦ ap (λ r. longest_in r t) e ∙ bang_nothing t k
+      | inl e ↦ ap (λ r. longest_in r t) e ∙ longest_in-dead t
+      | inr e ↦ ap (λ r. longest_in r t) e ∙ bang_nothing t k
     ]
 
 nothing_behind : (s : State) (x : Class) (t : List Class) → is_calm s ≡ true → is_stop (x ∷ t) ≡ true → longest_in (next s x) t ≡ None
 nothing_behind s x t h k =
     elim (or_cases (has stops x) (is_class class.Bang x && not (starts t class.Minus)) k) [
-      inl e ↦ ap (λ r. longest_in r t) (stop_dead s x h e) ∙ longest_in-dead t
-    | inr e ↦
-      let p = and_parts (is_class class.Bang x) (not (starts t class.Minus)) e in
-      let b = is_class-eq class.Bang x p.0 in
-      ap (λ c. longest_in (next s c) t) (sym b) ∙ bang_behind s t h (not-true (starts t class.Minus) p.1)
+      | inl e ↦ ap (λ r. longest_in r t) (stop_dead s x h e) ∙ longest_in-dead t
+      | inr e ↦
+          let p = and_parts (is_class class.Bang x) (not (starts t class.Minus)) e in
+          let b = is_class-eq class.Bang x p.0 in
+          ap (λ c. longest_in (next s c) t) (sym b) ∙ bang_behind s t h (not-true (starts t class.Minus) p.1)
     ]
 
 -- a calm state finds nothing longer at a stop
@@ -213,8 +213,8 @@ slash_here (x ∷ t) h =
 slash_star : (t : List Class) (k : Kind) → longest_in state.Slash t ≡ Some (k, 0) → (starts t class.Star ≡ false) × (kind.Delim ≡ k)
 slash_star t k h =
     elim (cases_Bool (starts t class.Star)) [
-      inl e ↦ let f : slash_kind (not (starts t class.Star || false)) ≡ Some k = longest-ended state.Slash t k h in let g : None ≡ Some k = rw e at f in cc
-    | inr e ↦ let f : slash_kind (not (starts t class.Star || false)) ≡ Some k = longest-ended state.Slash t k h in let g : Some kind.Delim ≡ Some k = rw e at f in (e, same_inside kind.Delim k g)
+      | inl e ↦ let f : slash_kind (not (starts t class.Star || false)) ≡ Some k = longest-ended state.Slash t k h in let g : None ≡ Some k = rw e at f in cc
+      | inr e ↦ let f : slash_kind (not (starts t class.Star || false)) ≡ Some k = longest-ended state.Slash t k h in let g : Some kind.Delim ≡ Some k = rw e at f in (e, same_inside kind.Delim k g)
     ]
 
 stop_no_star : (t : List Class) → is_stop t ≡ true → starts t class.Star ≡ false
@@ -244,6 +244,6 @@ calm_or_slash s after k h e = inl refl
 pub kept : (s : State) (c a b : List Class) (k : Kind) → is_solid k ≡ true → is_stop a ≡ true → is_stop b ≡ true → longest_in s (c ++ a) ≡ Some (k, 0) → longest_in s (c ++ b) ≡ Some (k, 0)
 kept s c a b k e f g h =
     elim (calm_or_slash s (c ++ a) k (longest-ended s (c ++ a) k h) e) [
-      inl i ↦ sym (calm_same s c a b i f g) ∙ h
-    | inr i ↦ ap (λ r. longest_in r (c ++ b)) i ∙ slash_same c a b k g (ap (λ r. longest_in r (c ++ a)) (sym i) ∙ h)
+      | inl i ↦ sym (calm_same s c a b i f g) ∙ h
+      | inr i ↦ ap (λ r. longest_in r (c ++ b)) i ∙ slash_same c a b k g (ap (λ r. longest_in r (c ++ a)) (sym i) ∙ h)
     ]

@@ -1,3 +1,4 @@
+pub mod Again
 pub mod Derivatives
 pub mod Firsts
 pub mod Fronts
