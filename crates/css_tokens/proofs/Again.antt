@@ -1,11 +1,11 @@
 -- A text is read again as the words that it was made of.
-use Rattle.std.proofs.Common.{◌≡◌, ℕ, suc, zero, ◌+◌, ◌<◌, ◌≤◌, List, [], ◌∷◌, ◌++◌, map, length, take, drop, Bool, true, false, not, ◌&&◌, ◌||◌, ◌⊎◌, nat_eq, ltb, cond, refl, sym, inl, inr, ap, ap₂, ◌∙◌, subst, Option, Some, None, arith, append_assoc, codes, ltb-true, ltb-false, eq-eqb, if◌then◌else◌}
-use Rattle.std.proofs.lemmas.Bool.{cases_Bool, and_parts, and_from, both_ways, not-true, not-false, or_cases}
+use Rattle.std.proofs.Common.{◌≡◌, ℕ, ◌+◌, ◌≤◌, List, [], ◌∷◌, ◌++◌, map, length, drop, Bool, true, false, not, ◌&&◌, ◌||◌, ◌⊎◌, ltb, refl, sym, inl, inr, ap, ap₂, ◌∙◌, subst, Some, arith, codes, ltb-false, eq-eqb}
+use Rattle.std.proofs.lemmas.Bool.{cases_Bool, and_parts, and_from, both_ways, not-false}
 use Rattle.std.proofs.lemmas.List.{map-append}
 use Rattle.std.specs.Char.{to_ascii_lowercase}
 use Rattle.std.specs.Option.{option_map}
 use Rattle.std.specs.List.{AllByRecursion, list_any}
-use lib.Pointwise.{pointwise, bytes_decides}
+use lib.Pointwise.{bytes_decides}
 use Rattle.css_tokens.specs.declared.class.Class.{Class}
 use Rattle.css_tokens.specs.declared.class.Class.TheVariants as class
 use Rattle.css_tokens.specs.declared.kind.Kind.{Kind}
@@ -13,17 +13,17 @@ use Rattle.css_tokens.specs.declared.kind.Kind.TheVariants as kind
 use Rattle.css_tokens.specs.declared.machine.State.{State}
 use Rattle.css_tokens.specs.declared.machine.State.TheVariants as state
 use Rattle.css_tokens.specs.Characters.{place_of, class_of, has, white, is_class}
-use Rattle.css_tokens.specs.Kinds.{starts, begins, is_kind, table, kind_of}
+use Rattle.css_tokens.specs.Kinds.{starts, begins}
 use Rattle.css_tokens.specs.Machine.{next, ended}
 use Rattle.css_tokens.specs.Piece.{Word}
-use Rattle.css_tokens.specs.Tokens.{First, ReadsTo, classes_of, is_url, quote_follows, spells, names, longer, as_front}
-use Rattle.css_tokens.specs.Again.{StaysFirst, is_stop, Alike, KeepsQuote, is_solid, word_from, marks, begins_none, after_ident}
+use Rattle.css_tokens.specs.Tokens.{ReadsTo, classes_of, is_url, quote_follows, as_front}
+use Rattle.css_tokens.specs.Again.{StaysFirst, is_stop, Alike, KeepsQuote, is_solid, word_from, marks}
 use Rattle.css_tokens.proofs.Derivatives.{is_class-eq}
 use Rattle.css_tokens.proofs.Fronts.{longest_in, longest_in-nil, longest_in-step, longest_in-dead}
 use Rattle.css_tokens.proofs.Firsts.{is_ruled, ByTable, AsUrl, by_table, as_url, first_cases}
 use Rattle.css_tokens.proofs.Kept.{is_calm, kept, calm_same}
 use Rattle.css_tokens.proofs.MachineRows.{each_class}
-use Rattle.css_tokens.proofs.Runs.{run, one_more, reach, reached, longest-ended, found_later, same_inside, kind_of-run}
+use Rattle.css_tokens.proofs.Runs.{run, one_more, reach, reached, longest-ended, found_later}
 use Rattle.css_tokens.proofs.Spelling.{classes_length}
 
 -- a front and what follows it, by classes
@@ -108,7 +108,7 @@ pub url_classes : (p : List ℕ) → is_url p ≡ true → classes_of p ≡ url_
 url_classes p h = url_by p ((bytes_decides (map to_ascii_lowercase p) (codes "url(")).0 h)
 
 -- a whole token finds nothing longer
-end_longest : (k : Kind) (t : List Class) → longest_in (state.End k) t ≡ Some (k, 0)
+pub end_longest : (k : Kind) (t : List Class) → longest_in (state.End k) t ≡ Some (k, 0)
 end_longest k [] = longest_in-nil (state.End k)
 end_longest k (x ∷ t) = longest_in-step (state.End k) x t ∙ ap (λ o. one_more o (Some k)) (longest_in-dead t)
 
@@ -290,7 +290,7 @@ marks_stay = (
 )
 
 -- the words that stay first where what follows does not go on with them
-abbrev dies_at : State → List Class → Type 0
+abbrev pub dies_at : State → List Class → Type 0
 dies_at s set = (x : Class) → has set x ≡ false → next s x ≡ state.Dead
 
 is_class-refl : (c : Class) → is_class c c ≡ true
@@ -312,7 +312,7 @@ begun (c ∷ set) x t h =
           ap₂ ◌||◌ (swapped c x e) (begun set x t g)
     ]
 
-none_next : (s : State) (set : List Class) (k : Kind) → dies_at s set → ended s [] ≡ Some k → ((after : List Class) → ended s after ≡ ended s []) → (t : List Class) → begins set t ≡ false → longest_in s t ≡ Some (k, 0)
+pub none_next : (s : State) (set : List Class) (k : Kind) → dies_at s set → ended s [] ≡ Some k → ((after : List Class) → ended s after ≡ ended s []) → (t : List Class) → begins set t ≡ false → longest_in s t ≡ Some (k, 0)
 none_next s set k d e f [] h = longest_in-nil s ∙ ap (option_map (as_front 0)) e
 none_next s set k d e f (x ∷ t) h =
     longest_in-step s x t

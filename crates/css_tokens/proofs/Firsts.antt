@@ -1,7 +1,7 @@
 -- The two ways in which a text has a first token: by the table, or as a Url.
-use Rattle.std.proofs.Common.{◌≡◌, ℕ, suc, zero, ◌+◌, ◌<◌, ◌≤◌, List, [], ◌∷◌, ◌++◌, map, length, take, drop, Bool, true, false, not, ◌&&◌, ◌⊎◌, refl, sym, inl, inr, ap, ap₂, ◌∙◌, subst, Option, Some, None, arith, add_comm, append_assoc, length-append, length-take, take-append-drop, if◌then◌else◌}
+use Rattle.std.proofs.Common.{◌≡◌, ℕ, ◌+◌, List, ◌++◌, length, take, drop, Bool, true, false, not, ◌&&◌, ◌⊎◌, sym, inl, inr, ap, ap₂, ◌∙◌, subst, Option, Some, arith, add_comm, append_assoc, length-append, length-take, if◌then◌else◌}
 use Rattle.std.proofs.Math.Seq.{take-add, drop-append_seam, take-append_seam}
-use Rattle.std.proofs.lemmas.Bool.{cases_Bool, and_parts}
+use Rattle.std.proofs.lemmas.Bool.{cases_Bool}
 use Rattle.std.specs.Option.{option_map, option_and_then}
 use Rattle.css_tokens.specs.declared.kind.Kind.{Kind}
 use Rattle.css_tokens.specs.declared.machine.State.TheVariants as state

@@ -1,5 +1,5 @@
 -- The longest front of a text, by the steps of the machine.
-use Rattle.std.proofs.Common.{◌≡◌, ℕ, suc, zero, ◌+◌, ◌-◌, ◌<◌, ◌≤◌, List, [], ◌∷◌, ◌++◌, map, length, take, drop, get_or, Bool, true, false, refl, sym, ap, ap₂, ◌∙◌, subst, Option, Some, None, add_assoc, add_comm, add-one, arith, drop-cons}
+use Rattle.std.proofs.Common.{◌≡◌, ℕ, ◌+◌, ◌-◌, ◌<◌, List, [], ◌∷◌, length, take, drop, get_or, refl, sym, ap, ap₂, ◌∙◌, Option, Some, None, add-one, arith, drop-cons}
 use Rattle.std.proofs.Math.Path.{fun_ext}
 use Rattle.std.proofs.lemmas.List.{take_rest}
 use Rattle.std.specs.Option.{option_map}
@@ -8,8 +8,8 @@ use Rattle.css_tokens.specs.declared.kind.Kind.{Kind}
 use Rattle.css_tokens.specs.declared.machine.State.{State}
 use Rattle.css_tokens.specs.declared.machine.State.TheVariants as state
 use Rattle.css_tokens.specs.Characters.{class_of}
-use Rattle.css_tokens.specs.Kinds.{Row, kind_of}
-use Rattle.css_tokens.specs.Machine.{rows, next, ended, derived}
+use Rattle.css_tokens.specs.Kinds.{kind_of}
+use Rattle.css_tokens.specs.Machine.{rows, next, ended}
 use Rattle.css_tokens.specs.Tokens.{longest, or_else, as_front, longer, classes_of}
 use Rattle.css_tokens.proofs.Derivatives.{kind_of-derived}
 use Rattle.css_tokens.proofs.MachineRows.{rows-next, ended-kind_of}

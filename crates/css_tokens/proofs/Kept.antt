@@ -1,8 +1,6 @@
 -- The first token of a text stays first where what follows it changes behind a stop.
-use Rattle.std.proofs.Common.{◌≡◌, ℕ, suc, zero, ◌+◌, ◌<◌, ◌≤◌, List, [], ◌∷◌, ◌++◌, map, length, take, drop, Bool, true, false, not, ◌&&◌, ◌||◌, nat_eq, eqb-true, ◌⊎◌, refl, sym, inl, inr, ap, ap₂, ◌∙◌, subst, Option, Some, None, arith, add_comm, append_assoc, add-one, length-append, take-append-drop, if◌then◌else◌}
-use Rattle.std.proofs.lemmas.Bool.{cases_Bool, and_parts, and_from, or_cases, both_ways, not-true}
-use Rattle.std.proofs.lemmas.List.{map-append}
-use Rattle.std.specs.List.{list_all}
+use Rattle.std.proofs.Common.{◌≡◌, List, [], ◌∷◌, ◌++◌, Bool, true, false, not, ◌&&◌, ◌||◌, ◌⊎◌, refl, sym, inl, inr, ap, ap₂, ◌∙◌, subst, Option, Some, None, if◌then◌else◌}
+use Rattle.std.proofs.lemmas.Bool.{cases_Bool, and_parts, or_cases, not-true}
 use Rattle.std.specs.Option.{option_map}
 use Rattle.css_tokens.specs.declared.class.Class.{Class}
 use Rattle.css_tokens.specs.declared.class.Class.TheVariants as class
@@ -10,15 +8,15 @@ use Rattle.css_tokens.specs.declared.kind.Kind.{Kind}
 use Rattle.css_tokens.specs.declared.kind.Kind.TheVariants as kind
 use Rattle.css_tokens.specs.declared.machine.State.{State}
 use Rattle.css_tokens.specs.declared.machine.State.TheVariants as state
-use Rattle.css_tokens.specs.Characters.{has, is_class, classes, class_of}
-use Rattle.css_tokens.specs.Kinds.{starts, begins, is_kind}
+use Rattle.css_tokens.specs.Characters.{has, is_class}
+use Rattle.css_tokens.specs.Kinds.{starts}
 use Rattle.css_tokens.specs.Machine.{next, ended}
-use Rattle.css_tokens.specs.Tokens.{longer, as_front, or_else}
+use Rattle.css_tokens.specs.Tokens.{as_front}
 use Rattle.css_tokens.specs.Again.{stops, is_stop, is_solid}
 use Rattle.css_tokens.proofs.Derivatives.{is_class-eq}
 use Rattle.css_tokens.proofs.MachineRows.{each_class}
 use Rattle.css_tokens.proofs.Fronts.{longest_in, longest_in-nil, longest_in-step, longest_in-dead}
-use Rattle.css_tokens.proofs.Runs.{run, one_more, longest-ended, same_inside}
+use Rattle.css_tokens.proofs.Runs.{one_more, longest-ended, same_inside}
 
 -- a state in which no white space, comment or string, and no inside of a Url, is open
 abbrev pub is_calm : State → Bool

@@ -8,3 +8,4 @@ pub mod OneReading
 pub mod Reading
 pub mod Runs
 pub mod Spelling
+pub mod Stays

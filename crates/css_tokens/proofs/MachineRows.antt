@@ -1,5 +1,5 @@
 -- The machine goes by the table: each step leaves what is left of the rows.
-use Rattle.std.proofs.Common.{◌≡◌, ℕ, suc, zero, List, [], ◌∷◌, Bool, true, false, ◌&&◌, refl, sym, ap, ap₂, ◌∙◌, subst, nat_eq, eqb-true, get_or, length, not, Option, Some, None, if◌then◌else◌}
+use Rattle.std.proofs.Common.{◌≡◌, ℕ, suc, zero, List, [], ◌∷◌, Bool, true, ◌&&◌, refl, sym, ap, ap₂, ◌∙◌, nat_eq, eqb-true, get_or}
 use Rattle.std.proofs.lemmas.Bool.{and_parts}
 use Rattle.std.specs.List.{list_all}
 use lib.Pointwise.{pointwise}
@@ -9,9 +9,9 @@ use Rattle.css_tokens.specs.declared.kind.Kind.{Kind}
 use Rattle.css_tokens.specs.declared.kind.Kind.TheVariants as kind
 use Rattle.css_tokens.specs.declared.machine.State.{State}
 use Rattle.css_tokens.specs.declared.machine.State.TheVariants as state
-use Rattle.css_tokens.specs.Characters.{classes, place_of}
+use Rattle.css_tokens.specs.Characters.{classes}
 use Rattle.css_tokens.specs.Patterns.{Pattern}
-use Rattle.css_tokens.specs.Kinds.{Row, kind_of, begins, place_of_kind}
+use Rattle.css_tokens.specs.Kinds.{Row, kind_of, place_of_kind}
 use Rattle.css_tokens.specs.Machine.{is_set, is_pattern, derived, rows, next, ended}
 use Rattle.css_tokens.proofs.Derivatives.{is_set-eq, is_pattern-eq}
 
@@ -40,7 +40,7 @@ kind_at kind.Delim = refl
 kind_at kind.Cdo = refl
 kind_at kind.Cdc = refl
 
-is_kind-eq : (a b : Kind) → nat_eq (place_of_kind a) (place_of_kind b) ≡ true → a ≡ b
+pub is_kind-eq : (a b : Kind) → nat_eq (place_of_kind a) (place_of_kind b) ≡ true → a ≡ b
 is_kind-eq a b h = sym (kind_at a) ∙ ap (λ n. get_or kinds n kind.White) (eqb-true (place_of_kind a) (place_of_kind b) h) ∙ kind_at b
 
 abbrev is_row : Row → Row → Bool

@@ -1,20 +1,19 @@
 -- A text reads in one way, or reading stops at one place.
-use Rattle.std.proofs.Common.{◌≡◌, ℕ, suc, zero, ◌+◌, ◌<◌, ◌≤◌, List, [], ◌∷◌, ◌++◌, map, length, take, drop, get_or, Bool, true, false, not, ◌&&◌, inl, inr, refl, sym, ap, ap₂, ◌∙◌, subst, Option, Some, None, MatchOption, arith, append-nil, le_of_suc-le-suc, add-one, add_comm}
+use Rattle.std.proofs.Common.{◌≡◌, ℕ, suc, zero, ◌+◌, ◌<◌, List, [], ◌∷◌, ◌++◌, length, take, drop, get_or, Bool, true, false, not, ◌&&◌, inl, inr, refl, sym, ap, ap₂, ◌∙◌, subst, Option, Some, None, MatchOption, arith, append-nil, le_of_suc-le-suc, add-one, add_comm}
 use Rattle.std.proofs.Math.Seq.{take-add}
 use Rattle.std.proofs.lemmas.Bool.{cases_Bool, and_parts, and_from, both_ways}
 use Rattle.std.proofs.lemmas.List.Quantifiers.{position-Some}
 use Rattle.std.specs.List.{list_all, position}
-use Rattle.std.specs.Option.{option_map, option_and_then}
-use Rattle.css_tokens.specs.declared.class.Class.{Class}
+use Rattle.std.specs.Option.{option_map}
 use Rattle.css_tokens.specs.declared.class.Class.TheVariants as class
 use Rattle.css_tokens.specs.declared.kind.Kind.{Kind}
 use Rattle.css_tokens.specs.declared.machine.State.{State}
 use Rattle.css_tokens.specs.declared.machine.State.TheVariants as state
-use Rattle.css_tokens.specs.Characters.{class_of, is_class}
+use Rattle.css_tokens.specs.Characters.{class_of}
 use Rattle.css_tokens.specs.Kinds.{table, url_table}
 use Rattle.css_tokens.specs.Machine.{next, ended}
 use Rattle.css_tokens.specs.Piece.{Word, spelled}
-use Rattle.css_tokens.specs.Tokens.{First, ReadsTo, Reads, Stops, StopsAt, StopsReading, IsStuck, first_front, front_of, url_rule, word, longer, as_front, or_else, classes_of, is_refused, is_url, quote_follows, is_control}
+use Rattle.css_tokens.specs.Tokens.{First, ReadsTo, Reads, Stops, StopsAt, StopsReading, first_front, front_of, url_rule, word, longer, as_front, or_else, classes_of, is_refused, is_url, quote_follows, is_control}
 use Rattle.css_tokens.proofs.Derivatives.{is_class-eq}
 use Rattle.css_tokens.proofs.Fronts.{longest_in, longest_in-step, longest_in-dead}
 use Rattle.css_tokens.proofs.Reading.{mapped, chained, reads_whole}

@@ -1,20 +1,20 @@
 -- Reading a text token by token.
-use Rattle.std.proofs.Common.{◌≡◌, ℕ, suc, zero, ◌+◌, ◌-◌, ◌^◌, ◌<◌, ◌≤◌, List, [], ◌∷◌, ◌++◌, map, length, take, drop, get_or, Bool, true, false, not, ◌&&◌, ◌⊎◌, inl, inr, refl, sym, ap, ap₂, ◌∙◌, subst, Option, Some, None, IsTrue, IfSome, IfErr, Result, Ok, Err, MatchOption, arith, append_assoc, append-nil, length-append, take-append-drop, nat_lt, nat_eq, ltb-true, zero-lt-suc}
+use Rattle.std.proofs.Common.{◌≡◌, ℕ, suc, zero, ◌+◌, ◌-◌, ◌^◌, ◌<◌, ◌≤◌, List, [], ◌∷◌, ◌++◌, map, length, take, drop, true, false, not, ◌&&◌, inl, inr, refl, sym, ap, ap₂, ◌∙◌, subst, Option, Some, None, IsTrue, IfErr, Result, Ok, Err, MatchOption, arith, append_assoc, append-nil, length-append, take-append-drop, nat_lt, nat_eq, ltb-true}
 use Rattle.std.proofs.lemmas.Bool.{cases_Bool, and_parts}
 use Rattle.std.proofs.lemmas.List.{map_push}
 use Rattle.std.proofs.lemmas.List.Concat.{flat_map-append}
 use Rattle.std.proofs.lemmas.Str.Ascii.{IsAscii-cons, IsAscii-nil}
 use Rattle.std.proofs.lemmas.Str.{IsUtf8-from_ascii}
 use Rattle.std.specs.Str.{IsAscii, IsUtf8}
-use Rattle.std.specs.List.{list_all, position}
+use Rattle.std.specs.List.{position}
 use Rattle.std.specs.Option.{option_map, option_and_then}
 use Rattle.css_tokens.specs.declared.class.Class.{Class}
 use Rattle.css_tokens.specs.declared.kind.Kind.{Kind}
 use Rattle.css_tokens.specs.declared.machine.State.TheVariants as state
 use Rattle.css_tokens.specs.Kinds.{table, url_table}
-use Rattle.css_tokens.specs.Machine.{next, ended}
+use Rattle.css_tokens.specs.Machine.{next}
 use Rattle.css_tokens.specs.Piece.{Piece, Word, word_of, spelled}
-use Rattle.css_tokens.specs.Tokens.{First, ReadsTo, IsPlaced, first_front, front_of, url_rule, word, longer, as_front, or_else, longest, classes_of, is_refused, is_plain, is_url, quote_follows, Begins, Stops, StopsAt, StopsReading, is_control}
+use Rattle.css_tokens.specs.Tokens.{First, ReadsTo, IsPlaced, first_front, front_of, url_rule, word, longer, or_else, classes_of, is_refused, is_plain, is_url, quote_follows, Begins, Stops, StopsAt, StopsReading, is_control}
 use Rattle.css_tokens.specs.Faults.{IsFault, IsReadingFault}
 use Rattle.css_tokens.specs.declared.reader.TokenFault.{TokenFault}
 use Rattle.css_tokens.specs.declared.reader.TokenFault.TheVariants.{Syntax, Memory}

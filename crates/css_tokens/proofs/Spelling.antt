@@ -1,10 +1,10 @@
 -- The first token of a text spells its kind.
-use Rattle.std.proofs.Common.{◌≡◌, ℕ, suc, zero, ◌+◌, ◌<◌, ◌≤◌, List, [], ◌∷◌, ◌++◌, map, length, take, drop, Bool, true, false, not, ◌&&◌, ◌||◌, nat_eq, refl, sym, inl, inr, ap, ap₂, ◌∙◌, subst, Option, Some, None, arith, add_comm, length-take, take-append-drop, take-take, codes}
+use Rattle.std.proofs.Common.{◌≡◌, ℕ, suc, ◌+◌, ◌≤◌, List, [], ◌∷◌, ◌++◌, map, length, take, drop, Bool, true, false, not, ◌&&◌, ◌||◌, nat_eq, refl, sym, inl, inr, ap, ◌∙◌, subst, Some, None, arith, add_comm, length-take, take-append-drop, take-take, codes}
 use Rattle.std.proofs.lemmas.Bool.{cases_Bool, and_parts, and_from}
 use Rattle.std.proofs.lemmas.List.{map-append, drop-take}
 use Rattle.std.specs.Option.{option_map}
 use Rattle.std.specs.Char.{to_ascii_lowercase}
-use lib.Pointwise.{pointwise, pointwise_long}
+use lib.Pointwise.{pointwise_long}
 use Rattle.css_tokens.specs.declared.class.Class.{Class}
 use Rattle.css_tokens.specs.declared.kind.Kind.{Kind}
 use Rattle.css_tokens.specs.declared.kind.Kind.TheVariants as kind
@@ -13,7 +13,7 @@ use Rattle.css_tokens.specs.declared.machine.State.TheVariants as state
 use Rattle.css_tokens.specs.Characters.{class_of}
 use Rattle.css_tokens.specs.Kinds.{kind_of, table, url_table, url_inside, is_kind}
 use Rattle.css_tokens.specs.Patterns.{fits}
-use Rattle.css_tokens.specs.Machine.{rows, ended}
+use Rattle.css_tokens.specs.Machine.{rows}
 use Rattle.css_tokens.specs.Piece.{Word}
 use Rattle.css_tokens.specs.Tokens.{First, first_front, front_of, url_rule, word, longer, classes_of, is_url, quote_follows, names, spells}
 use Rattle.css_tokens.proofs.Fronts.{longest_in}

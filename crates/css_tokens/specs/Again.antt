@@ -1,13 +1,13 @@
 -- What lets a text be read again as the words that it was made of.
-use Rattle.std.specs.Prelude.{ℕ, List, [], ◌∷◌, ◌++◌, ◌≡◌, Bool, true, false, ◌||◌, ◌&&◌, not, codes, length}
+use Rattle.std.specs.Prelude.{ℕ, List, [], ◌∷◌, ◌++◌, ◌≡◌, Bool, true, ◌||◌, ◌&&◌, not, codes}
 use Rattle.css_tokens.specs.declared.kind.Kind.{Kind}
 use Rattle.css_tokens.specs.declared.kind.Kind.TheVariants as kind
 use Rattle.css_tokens.specs.declared.class.Class.{Class}
 use Rattle.css_tokens.specs.declared.class.Class.TheVariants as class
-use Rattle.css_tokens.specs.Characters.{has, is_class, name, white, other_than}
+use Rattle.css_tokens.specs.Characters.{has, is_class, name, other_than}
 use Rattle.css_tokens.specs.Kinds.{starts, begins, is_kind}
 use Rattle.css_tokens.specs.Piece.{Word}
-use Rattle.css_tokens.specs.Tokens.{First, classes_of, is_url, quote_follows}
+use Rattle.css_tokens.specs.Tokens.{First, classes_of, quote_follows}
 
 -- the word is the first token of the text that it makes with what follows it
 abbrev pub StaysFirst : Word → List ℕ → Type 0

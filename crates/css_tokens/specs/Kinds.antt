@@ -1,12 +1,12 @@
 -- The table of the kinds of tokens (CSS Syntax 3, section 4).
-use Rattle.std.specs.Prelude.{ℕ, nat_eq, List, [], ◌∷◌, Bool, false, true, ◌||◌, ◌&&◌, not, Option, Some, None, if◌then◌else◌}
+use Rattle.std.specs.Prelude.{ℕ, nat_eq, List, [], ◌∷◌, Bool, false, ◌&&◌, not, Option, Some, None, if◌then◌else◌}
 use Rattle.css_tokens.specs.declared.kind.Kind.{Kind}
 use Rattle.css_tokens.specs.declared.kind.Kind.TheVariants as kind
 use Rattle.css_tokens.specs.declared.class.Class.{Class}
 use Rattle.css_tokens.specs.declared.class.Class.TheVariants as class
 use Rattle.std.specs.List.{list_any}
-use Rattle.css_tokens.specs.Characters.{has, is_class, white, name_start, name, sign, in_string, in_url, delim}
-use Rattle.css_tokens.specs.Patterns.{Pattern, Empty, One, Many, Closed, ◌∣◌, ◌⋅◌, optional, some, fits}
+use Rattle.css_tokens.specs.Characters.{is_class, white, name_start, name, sign, in_string, in_url, delim}
+use Rattle.css_tokens.specs.Patterns.{Pattern, One, Many, Closed, ◌∣◌, ◌⋅◌, optional, some, fits}
 
 -- one character of this class
 abbrev pub the : Class → Pattern

@@ -14,7 +14,7 @@ mod token;
 
 pub use component::{Block, Component};
 pub use kind::Kind;
-pub use laws::one_reading;
+pub use laws::{one_reading, words_again};
 pub use list::List;
 pub use memory::OutOfMemory;
 pub use reader::{TokenFault, tokens};

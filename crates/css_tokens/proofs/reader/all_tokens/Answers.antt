@@ -1,4 +1,4 @@
-use Rattle.std.proofs.Common.{◌≡◌, length, sym, ap, arith, rules, subst, ◌∙◌}
+use Rattle.std.proofs.Common.{length, ap, arith, rules, ◌∙◌}
 use Rattle.css_tokens.specs.Piece.{Piece}
 use Rattle.css_tokens.specs.Tokens.{is_plain}
 use Rattle.css_tokens.proofs.Reading.{turn_fits, turn_reads, turn_placed, turn_size, plain_drop}

@@ -1,4 +1,4 @@
-use Rattle.std.proofs.Common.{◌+◌, drop, ◌≤◌, IfSome, arith, rules}
+use Rattle.std.proofs.Common.{◌+◌, drop, arith}
 use Rattle.std.proofs.lemmas.Grind.{common_steps}
 use Rattle.css_tokens.specs.Tokens.{classes_of}
 use Rattle.css_tokens.proofs.Fronts.{read_turn, read_end}

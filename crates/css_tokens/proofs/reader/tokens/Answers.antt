@@ -1,4 +1,3 @@
-use Rattle.std.proofs.Common.{sym, refl, ◌∙◌}
 use Rattle.css_tokens.proofs.Reading.{stops_at_control, faults_of, plain_utf8}
 use Rattle.css_tokens.proofs.reader.tokens.Goals as goal
 
