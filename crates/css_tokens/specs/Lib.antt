@@ -1,5 +1,12 @@
+pub mod Again
+pub mod Characters
+pub mod Faults
 pub mod formers
+pub mod Kinds
+pub mod Machine
+pub mod Patterns
 pub mod Piece
 pub mod Texts
+pub mod Tokens
 pub mod Trees
 pub mod Values

@@ -1,9 +1,11 @@
-ghost use Rattle.std.specs.Prelude.{◌≡◌};
+ghost use Rattle.std.specs.Prelude.{◌≡◌, IsTrue};
+ghost use Rattle.css_tokens.specs.Tokens.{spells};
 
 use crate::Kind;
 use std::marker::Model;
 
-/// A token of a text (CSS Syntax 3, section 4). Contracts see it as a `Piece`.
+/// A token of a text (CSS Syntax 3, section 4). Its characters spell its kind by the table of `specs/Kinds.antt`, what
+/// follows them in the source aside. Contracts see it as a `Piece`.
 #[derive(Debug, Drop)]
 pub struct Token<'a> {
     /// What it is.
@@ -20,9 +22,22 @@ impl<'a> Model for Token<'a> {
     ghost Value = { Piece };
 
     ghost view = { λ token. record { kind = token.kind; text = token.text.now; at = token.at } };
+
+    ghost use Rattle.std.specs.Prelude.{IsTrue};
+    ghost use Rattle.css_tokens.specs.Tokens.{spells};
+
+    ghost invariant = { λ token. IsTrue (spells token.kind token.text.now) };
 }
 
 impl<'a> Token<'a> {
+    /// A token of this kind, where the characters spell it. Takes no memory.
+    pub fn new(kind: Kind, text: &'a str, at: u32) -> Token<'a>
+        requires { IsTrue (spells kind text.now) }
+        ensures { result ≡ record { kind = kind; text = text.now; at = at } }
+    {
+        Token { kind, text, at }
+    }
+
     /// The same token again. Takes no memory.
     pub fn copy(&self) -> Token<'a>
         ensures { result ≡ self.now }

@@ -1,0 +1,11 @@
+pub mod Again
+pub mod Derivatives
+pub mod Firsts
+pub mod Fronts
+pub mod Kept
+pub mod MachineRows
+pub mod OneReading
+pub mod Reading
+pub mod Runs
+pub mod Spelling
+pub mod Stays

@@ -1,0 +1,130 @@
+-- The first token of a text spells its kind.
+use Rattle.std.proofs.Common.{◌≡◌, ℕ, suc, ◌+◌, ◌≤◌, List, [], ◌∷◌, ◌++◌, map, length, take, drop, Bool, true, false, not, ◌&&◌, ◌||◌, nat_eq, refl, sym, inl, inr, ap, ◌∙◌, subst, Some, None, arith, add_comm, length-take, take-append-drop, take-take, codes}
+use Rattle.std.proofs.lemmas.Bool.{cases_Bool, and_parts, and_from}
+use Rattle.std.proofs.lemmas.List.{map-append, drop-take}
+use Rattle.std.specs.Option.{option_map}
+use Rattle.std.specs.Char.{to_ascii_lowercase}
+use lib.Pointwise.{pointwise_long}
+use Rattle.css_tokens.specs.declared.class.Class.{Class}
+use Rattle.css_tokens.specs.declared.kind.Kind.{Kind}
+use Rattle.css_tokens.specs.declared.kind.Kind.TheVariants as kind
+use Rattle.css_tokens.specs.declared.machine.State.{State}
+use Rattle.css_tokens.specs.declared.machine.State.TheVariants as state
+use Rattle.css_tokens.specs.Characters.{class_of}
+use Rattle.css_tokens.specs.Kinds.{kind_of, table, url_table, url_inside, is_kind}
+use Rattle.css_tokens.specs.Patterns.{fits}
+use Rattle.css_tokens.specs.Machine.{rows}
+use Rattle.css_tokens.specs.Piece.{Word}
+use Rattle.css_tokens.specs.Tokens.{First, first_front, front_of, url_rule, word, longer, classes_of, is_url, quote_follows, names, spells}
+use Rattle.css_tokens.proofs.Fronts.{longest_in}
+use Rattle.css_tokens.proofs.Reading.{mapped, chained}
+use Rattle.css_tokens.proofs.Runs.{run, kind_of-run, reach, longest-ended, ended_aside, longest_within, same_inside}
+
+-- a kind is itself
+is_kind-refl : (k : Kind) → is_kind k k ≡ true
+is_kind-refl kind.White = refl
+is_kind-refl kind.Comment = refl
+is_kind-refl kind.Ident = refl
+is_kind-refl kind.Function = refl
+is_kind-refl kind.Url = refl
+is_kind-refl kind.At = refl
+is_kind-refl kind.Hash = refl
+is_kind-refl kind.String = refl
+is_kind-refl kind.Number = refl
+is_kind-refl kind.Percentage = refl
+is_kind-refl kind.Dimension = refl
+is_kind-refl kind.Colon = refl
+is_kind-refl kind.Semicolon = refl
+is_kind-refl kind.Comma = refl
+is_kind-refl kind.Open = refl
+is_kind-refl kind.Close = refl
+is_kind-refl kind.Delim = refl
+is_kind-refl kind.Cdo = refl
+is_kind-refl kind.Cdc = refl
+
+pub classes_length : (t : List ℕ) → length (classes_of t) ≡ length t
+classes_length [] = refl
+classes_length (x ∷ t) = ap suc (classes_length t)
+
+pub front_within : (s : State) (t : List ℕ) (k : Kind) (n : ℕ) → longest_in s (classes_of t) ≡ Some (k, n) → n ≤ length t
+front_within s t k n h = let w = longest_within s (classes_of t) k n h in omega (arith, classes_length t)
+
+-- the machine has come to a state that has the kind
+pub front_reached : (s : State) (t : List ℕ) (k : Kind) (n : ℕ) → longest_in s (classes_of t) ≡ Some (k, n) → longest_in (run s (classes_of (take n t))) (classes_of (drop n t)) ≡ Some (k, 0)
+front_reached s t k n h =
+    let w = front_within s t k n h in
+    let l : n ≡ length (classes_of (take n t)) = omega (arith, classes_length (take n t), length-take n t) in
+    let e : classes_of t ≡ classes_of (take n t) ++ classes_of (drop n t) = ap classes_of (sym (take-append-drop n t)) ∙ map-append class_of (take n t) (drop n t) in
+    reach s (classes_of (take n t)) (classes_of (drop n t)) k
+    (ap (longest_in s) (sym e) ∙ h ∙ ap (λ (m : ℕ). Some (k, m)) l)
+
+front_spelled : (s : State) (t : List ℕ) (k : Kind) (n : ℕ) → longest_in s (classes_of t) ≡ Some (k, n) → kind_of (rows s) (classes_of (take n t)) [] ≡ Some k
+front_spelled s t k n h =
+    let u = classes_of (take n t) in
+    kind_of-run s u [] ∙ ended_aside (run s u) (classes_of (drop n t)) k (longest-ended (run s u) (classes_of (drop n t)) k (front_reached s t k n h))
+
+or_first : (a b : Bool) → a ≡ true → (a || b) ≡ true
+or_first true b h = refl
+or_first false b h = cc
+
+or_second : (a b : Bool) → b ≡ true → (a || b) ≡ true
+or_second true b h = refl
+or_second false b h = h
+
+table_spells : (t : List ℕ) (k : Kind) (n : ℕ) → longest_in state.Start (classes_of t) ≡ Some (k, n) → spells k (take n t) ≡ true
+unfolding spells
+table_spells t k n h =
+    or_first (names k (kind_of table (classes_of (take n t)) [])) _
+    (ap (names k) (front_spelled state.Start t k n h) ∙ is_kind-refl k)
+
+inside_spelled : (u : List Class) (k : Kind) → kind_of url_table u [] ≡ Some k → (k ≡ kind.Url) × (fits url_inside u ≡ true)
+inside_spelled u k h =
+    elim (cases_Bool (fits url_inside u)) [
+      | inl e ↦ (sym (same_inside kind.Url k (rw e at h)), e)
+      | inr e ↦ let f : None ≡ Some k = rw e at h in cc
+    ]
+
+map_length : (f : ℕ → ℕ) (t : List ℕ) → length (map f t) ≡ length t
+map_length f [] = refl
+map_length f (x ∷ t) = ap suc (map_length f t)
+
+pub url_length : (t : List ℕ) → is_url t ≡ true → length t ≡ 4
+url_length t h = sym (map_length to_ascii_lowercase t) ∙ pointwise_long nat_eq (map to_ascii_lowercase t) (codes "url(") h
+
+take_take : (t : List ℕ) (n m : ℕ) → take n (take (n + m) t) ≡ take n t
+take_take t n m = take-take n (n + m) t (omega arith)
+
+parts : (t : List ℕ) (n m : ℕ) → n ≡ 4 → (take 4 (take (m + n) t) ≡ take n t) × (drop 4 (take (m + n) t) ≡ take m (drop n t))
+parts t n m e = (
+  ap (λ k. take k (take (m + n) t)) (sym e) ∙ ap (λ k. take n (take k t)) (add_comm m n) ∙ take_take t n m,
+  ap (λ k. drop k (take (m + n) t)) (sym e) ∙ ap (λ k. drop n (take k t)) (add_comm m n) ∙ drop-take n m t,
+)
+
+url_spells : (t : List ℕ) (n m : ℕ) (k : Kind) → n ≤ length t → is_url (take n t) ≡ true → longest_in state.UrlStart (classes_of (drop n t)) ≡ Some (k, m) → spells k (take (m + n) t) ≡ true
+unfolding spells
+url_spells t n m k w u h =
+    let four : n ≡ 4 = let l = url_length (take n t) u in omega (arith, length-take n t) in
+    let i = inside_spelled (classes_of (take m (drop n t))) k (front_spelled state.UrlStart (drop n t) k m h) in
+    let a : is_url (take 4 (take (m + n) t)) ≡ true = subst (λ s. is_url s ≡ true) (sym (parts t n m four).0) u in
+    let b : fits url_inside (classes_of (drop 4 (take (m + n) t))) ≡ true = subst (λ s. fits url_inside (classes_of s) ≡ true) (sym (parts t n m four).1) i.1 in
+    or_second (names k (kind_of table (classes_of (take (m + n) t)) [])) _
+    (and_from (is_kind k kind.Url) _ (ap (λ j. is_kind j kind.Url) i.0) (and_from _ _ a b))
+
+rule_spells : (t : List ℕ) (f g : Kind × ℕ) → longest_in state.Start (classes_of t) ≡ Some f → url_rule t f ≡ Some g → spells g.0 (take g.1 t) ≡ true
+rule_spells t f g h r =
+    elim (cases_Bool (is_url (take f.1 t) && not (quote_follows (classes_of (drop f.1 t))))) [
+      | inl e ↦
+          let m = mapped (longer f.1) (front_of url_table (drop f.1 t)) g (rw e at r) in
+          let u = and_parts (is_url (take f.1 t)) (not (quote_follows (classes_of (drop f.1 t)))) e in
+          subst (λ (x : Kind × ℕ). spells x.0 (take x.1 t) ≡ true) m.2 (url_spells t f.1 m.0.1 m.0.0 (front_within state.Start t f.0 f.1 h) u.0 m.1)
+      | inr e ↦ let i : Some f ≡ Some g = rw e at r in subst (λ (x : Kind × ℕ). spells x.0 (take x.1 t) ≡ true) (same_inside f g i) (table_spells t f.0 f.1 h)
+    ]
+
+pub first_spells : (t : List ℕ) (w : Word) → First t w → spells w.kind w.text ≡ true
+first_spells t w h =
+    let m = mapped (word t) (first_front t) w h in
+    let c = chained (url_rule t) (front_of table t) m.0 m.1 in
+    subst (λ (v : Word). spells v.kind v.text ≡ true) m.2 (rule_spells t c.0 m.0 c.1 c.2)
+
+pub spells_by : (t : List ℕ) (k : Kind) (n : ℕ) (u : List ℕ) → Some (k, n) ≡ first_front t → u ≡ take n t → spells k u ≡ true
+spells_by t k n u h e = ap (spells k) e ∙ first_spells t (word t (k, n)) (ap (option_map (word t)) (sym h))

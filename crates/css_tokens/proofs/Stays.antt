@@ -1,0 +1,175 @@
+-- What may follow a word so that it stays the first token.
+use Rattle.std.proofs.Common.{◌≡◌, ℕ, List, [], ◌∷◌, Bool, true, false, not, ◌&&◌, refl, sym, inl, inr, ap, ap₂, ◌∙◌, subst, Option, Some, None, codes}
+use Rattle.std.proofs.lemmas.Bool.{cases_Bool, not-true, or_cases}
+use Rattle.css_tokens.specs.declared.class.Class.{Class}
+use Rattle.css_tokens.specs.declared.class.Class.TheVariants as class
+use Rattle.css_tokens.specs.declared.kind.Kind.{Kind}
+use Rattle.css_tokens.specs.declared.kind.Kind.TheVariants as kind
+use Rattle.css_tokens.specs.declared.machine.State.{State}
+use Rattle.css_tokens.specs.declared.machine.State.TheVariants as state
+use Rattle.css_tokens.specs.Characters.{white, name}
+use Rattle.css_tokens.specs.Kinds.{begins, is_kind, table, kind_of}
+use Rattle.css_tokens.specs.Machine.{ended}
+use Rattle.css_tokens.specs.Tokens.{classes_of, is_url, quote_follows, spells, names}
+use Rattle.css_tokens.specs.Again.{StaysFirst, word_from, begins_none, after_ident}
+use Rattle.css_tokens.proofs.Fronts.{longest_in}
+use Rattle.css_tokens.proofs.Firsts.{by_table}
+use Rattle.css_tokens.proofs.MachineRows.{is_kind-eq}
+use Rattle.css_tokens.proofs.Runs.{run, kind_of-run}
+use Rattle.css_tokens.proofs.Again.{comes_from, none_next, dies_at, end_longest, url_classes}
+
+-- a word before a text that does not go on with it
+stays_by : (u : List ℕ) (k : Kind) (set : List Class) (rest : List ℕ) → dies_at (run state.Start (classes_of u)) set → ended (run state.Start (classes_of u)) [] ≡ Some k → ((after : List Class) → ended (run state.Start (classes_of u)) after ≡ ended (run state.Start (classes_of u)) []) → is_url u ≡ false → begins_none set rest ≡ true → StaysFirst (word_from k u) rest
+stays_by u k set rest d e f n h = by_table (word_from k u) rest (record {
+  found = comes_from state.Start u rest k (none_next (run state.Start (classes_of u)) set k d e f (classes_of rest) (not-true (begins set (classes_of rest)) h));
+  ruled = ap (λ b. b && not (quote_follows (classes_of rest))) n;
+})
+
+dot_dies : dies_at state.Dot (class.Digit ∷ [])
+dot_dies class.Digit h = cc
+dot_dies x h = refl
+
+pub dot_stays : (rest : List ℕ) → begins_none (class.Digit ∷ []) rest ≡ true → StaysFirst (word_from kind.Delim (codes ".")) rest
+dot_stays rest h = stays_by (codes ".") kind.Delim (class.Digit ∷ []) rest dot_dies refl (λ after. refl) refl h
+
+plus_dies : dies_at state.Plus (class.Digit ∷ class.Dot ∷ [])
+plus_dies class.Digit h = cc
+plus_dies class.Dot h = cc
+plus_dies x h = refl
+
+pub plus_stays : (rest : List ℕ) → begins_none (class.Digit ∷ class.Dot ∷ []) rest ≡ true → StaysFirst (word_from kind.Delim (codes "+")) rest
+plus_stays rest h = stays_by (codes "+") kind.Delim (class.Digit ∷ class.Dot ∷ []) rest plus_dies refl (λ after. refl) refl h
+
+white_dies : dies_at state.White white
+white_dies class.Blank h = cc
+white_dies class.Newline h = cc
+white_dies x h = refl
+
+pub space_stays : (rest : List ℕ) → begins_none white rest ≡ true → StaysFirst (word_from kind.White (codes " ")) rest
+space_stays rest h = stays_by (codes " ") kind.White white rest white_dies refl (λ after. refl) refl h
+
+-- the state that a spelled word comes to has its kind
+names-eq : (k : Kind) (o : Option Kind) → names k o ≡ true → o ≡ Some k
+names-eq k None h = cc
+names-eq k (Some j) h = ap Some (sym (is_kind-eq k j h))
+
+spelled_state : (u : List ℕ) (k : Kind) → is_kind k kind.Url ≡ false → spells k u ≡ true → ended (run state.Start (classes_of u)) [] ≡ Some k
+unfolding spells
+spelled_state u k f h =
+    elim (or_cases (names k (kind_of table (classes_of u) [])) _ h) [
+      | inl e ↦ sym (kind_of-run state.Start (classes_of u) []) ∙ names-eq k (kind_of table (classes_of u) []) e
+      | inr e ↦ let g = rw f at e in cc
+    ]
+
+not_function : (u : List ℕ) (k : Kind) → is_kind k kind.Function ≡ false → ended (run state.Start (classes_of u)) [] ≡ Some k → is_url u ≡ false
+not_function u k f h =
+    elim (cases_Bool (is_url u)) [
+      | inl e ↦
+          let g : Some kind.Function ≡ Some k = ap (λ c. ended (run state.Start c) []) (sym (url_classes u e)) ∙ h in
+          let i : kind.Function ≡ k = cc in
+          let j : is_kind kind.Function kind.Function ≡ false = subst (λ x. is_kind x kind.Function ≡ false) (sym i) f in
+          cc
+      | inr e ↦ e
+    ]
+
+name_dies : dies_at state.Name after_ident
+name_dies class.Exponent h = cc
+name_dies class.Letter h = cc
+name_dies class.High h = cc
+name_dies class.Digit h = cc
+name_dies class.Minus h = cc
+name_dies class.OpenParen h = cc
+name_dies class.Greater h = cc
+name_dies x h = refl
+
+dashes_die : dies_at state.MinusMinus after_ident
+dashes_die class.Exponent h = cc
+dashes_die class.Letter h = cc
+dashes_die class.High h = cc
+dashes_die class.Digit h = cc
+dashes_die class.Minus h = cc
+dashes_die class.OpenParen h = cc
+dashes_die class.Greater h = cc
+dashes_die x h = refl
+
+hash_dies : dies_at state.HashName name
+hash_dies class.Exponent h = cc
+hash_dies class.Letter h = cc
+hash_dies class.High h = cc
+hash_dies class.Digit h = cc
+hash_dies class.Minus h = cc
+hash_dies x h = refl
+
+at_dies : dies_at state.AtName name
+at_dies class.Exponent h = cc
+at_dies class.Letter h = cc
+at_dies class.High h = cc
+at_dies class.Digit h = cc
+at_dies class.Minus h = cc
+at_dies x h = refl
+
+-- what a state that has the kind does
+abbrev Stays : State → List Class → Type 0
+Stays s set = dies_at s set × ((after : List Class) → ended s after ≡ ended s [])
+
+ident_state : (s : State) → ended s [] ≡ Some kind.Ident → Stays s after_ident
+ident_state state.Name h = (name_dies, λ after. refl)
+ident_state state.MinusMinus h = (dashes_die, λ after. refl)
+ident_state (state.End k) h = (λ x g. refl, λ after. refl)
+ident_state s h = cc
+
+hash_state : (s : State) → ended s [] ≡ Some kind.Hash → Stays s name
+hash_state state.HashName h = (hash_dies, λ after. refl)
+hash_state (state.End k) h = (λ x g. refl, λ after. refl)
+hash_state s h = cc
+
+at_state : (s : State) → ended s [] ≡ Some kind.At → Stays s name
+at_state state.AtName h = (at_dies, λ after. refl)
+at_state (state.End k) h = (λ x g. refl, λ after. refl)
+at_state s h = cc
+
+string_state : (s : State) → ended s [] ≡ Some kind.String → Stays s []
+string_state (state.End k) h = (λ x g. refl, λ after. refl)
+string_state s h = cc
+
+function_state : (s : State) → ended s [] ≡ Some kind.Function → Stays s []
+function_state (state.End k) h = (λ x g. refl, λ after. refl)
+function_state s h = cc
+
+stays_in : (u : List ℕ) (k : Kind) (set : List Class) (rest : List ℕ) → Stays (run state.Start (classes_of u)) set → ended (run state.Start (classes_of u)) [] ≡ Some k → is_url u ≡ false → begins_none set rest ≡ true → StaysFirst (word_from k u) rest
+stays_in u k set rest s e n h = stays_by u k set rest s.0 e s.1 n h
+
+-- an Ident before a text that begins with no name character, `(` or `>`
+pub ident_stays : (u rest : List ℕ) → spells kind.Ident u ≡ true → begins_none after_ident rest ≡ true → StaysFirst (word_from kind.Ident u) rest
+ident_stays u rest h n =
+    let e = spelled_state u kind.Ident refl h in
+    stays_in u kind.Ident after_ident rest (ident_state (run state.Start (classes_of u)) e) e (not_function u kind.Ident refl e) n
+
+-- a Hash or an At before a text that begins with no name character
+pub hash_stays : (u rest : List ℕ) → spells kind.Hash u ≡ true → begins_none name rest ≡ true → StaysFirst (word_from kind.Hash u) rest
+hash_stays u rest h n =
+    let e = spelled_state u kind.Hash refl h in
+    stays_in u kind.Hash name rest (hash_state (run state.Start (classes_of u)) e) e (not_function u kind.Hash refl e) n
+
+pub at_stays : (u rest : List ℕ) → spells kind.At u ≡ true → begins_none name rest ≡ true → StaysFirst (word_from kind.At u) rest
+at_stays u rest h n =
+    let e = spelled_state u kind.At refl h in
+    stays_in u kind.At name rest (at_state (run state.Start (classes_of u)) e) e (not_function u kind.At refl e) n
+
+-- a String before any text, and a Function other than `url(`
+pub string_stays : (u rest : List ℕ) → spells kind.String u ≡ true → StaysFirst (word_from kind.String u) rest
+string_stays u rest h =
+    let e = spelled_state u kind.String refl h in
+    stays_in u kind.String [] rest (string_state (run state.Start (classes_of u)) e) e (not_function u kind.String refl e) refl
+
+pub function_stays : (u rest : List ℕ) → spells kind.Function u ≡ true → is_url u ≡ false → StaysFirst (word_from kind.Function u) rest
+function_stays u rest h n =
+    let e = spelled_state u kind.Function refl h in
+    stays_in u kind.Function [] rest (function_state (run state.Start (classes_of u)) e) e n refl
+
+-- `url(` before a quote, with white space between them or not
+pub url_stays : (u rest : List ℕ) → is_url u ≡ true → quote_follows (classes_of rest) ≡ true → StaysFirst (word_from kind.Function u) rest
+url_stays u rest h q = by_table (word_from kind.Function u) rest (record {
+  found = comes_from state.Start u rest kind.Function (ap (λ c. longest_in (run state.Start c) (classes_of rest)) (url_classes u h) ∙ end_longest kind.Function (classes_of rest));
+  ruled = ap₂ (λ (a b : Bool). a && not b) h q;
+})

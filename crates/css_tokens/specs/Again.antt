@@ -1,0 +1,76 @@
+-- What lets a text be read again as the words that it was made of.
+use Rattle.std.specs.Prelude.{ℕ, List, [], ◌∷◌, ◌++◌, ◌≡◌, Bool, true, ◌||◌, ◌&&◌, not, codes}
+use Rattle.css_tokens.specs.declared.kind.Kind.{Kind}
+use Rattle.css_tokens.specs.declared.kind.Kind.TheVariants as kind
+use Rattle.css_tokens.specs.declared.class.Class.{Class}
+use Rattle.css_tokens.specs.declared.class.Class.TheVariants as class
+use Rattle.css_tokens.specs.Characters.{has, is_class, name, other_than}
+use Rattle.css_tokens.specs.Kinds.{starts, begins, is_kind}
+use Rattle.css_tokens.specs.Piece.{Word}
+use Rattle.css_tokens.specs.Tokens.{First, classes_of, quote_follows}
+
+-- the word is the first token of the text that it makes with what follows it
+abbrev pub StaysFirst : Word → List ℕ → Type 0
+StaysFirst w rest = First (w.text ++ rest) w
+
+-- A stop is the end of the text, or a character that nothing but white space, comments and strings goes on with.
+abbrev pub stops : List Class
+stops = other_than (name ++ class.Dot ∷ class.Plus ∷ class.Percent ∷ class.Bang ∷ class.Greater ∷ class.OpenParen ∷ class.Star ∷ class.Backslash ∷ [])
+
+-- does the text begin with a stop, or with a `!` and no `-` behind it?
+abbrev pub is_stop : List Class → Bool
+is_stop [] = true
+is_stop (x ∷ s) = has stops x || (is_class class.Bang x && not (starts s class.Minus))
+
+-- the two texts are the same up to a stop of each
+pub record Alike (a b : List ℕ) : Type 0 where
+  pub same : List ℕ
+  pub left : List ℕ
+  pub right : List ℕ
+  pub whole_left : a ≡ same ++ left
+  pub whole_right : b ≡ same ++ right
+  pub stop_left : is_stop (classes_of left) ≡ true
+  pub stop_right : is_stop (classes_of right) ≡ true
+
+-- where a quote comes after the white space of the one, so it does in the other
+abbrev pub KeepsQuote : List ℕ → List ℕ → Type 0
+KeepsQuote a b = quote_follows (classes_of a) ≡ true → quote_follows (classes_of b) ≡ true
+
+-- is it neither white space nor a comment?
+abbrev pub is_solid : Kind → Bool
+is_solid k = not (is_kind k kind.White) && not (is_kind k kind.Comment)
+
+abbrev pub word_from : Kind → List ℕ → Word
+word_from k text = record { kind = k; text = text }
+
+-- the words that stay first before any text
+abbrev pub marks : List Word
+marks =
+    word_from kind.Open (codes "{")
+    ∷ word_from kind.Close (codes "}")
+    ∷ word_from kind.Open (codes "(")
+    ∷ word_from kind.Close (codes ")")
+    ∷ word_from kind.Open (codes "[")
+    ∷ word_from kind.Close (codes "]")
+    ∷ word_from kind.Colon (codes ":")
+    ∷ word_from kind.Semicolon (codes ";")
+    ∷ word_from kind.Comma (codes ",")
+    ∷ word_from kind.Delim (codes ">")
+    ∷ word_from kind.Delim (codes "*")
+    ∷ word_from kind.Delim (codes "~")
+    ∷ word_from kind.Delim (codes "!")
+    ∷ word_from kind.Delim (codes "&")
+    ∷ word_from kind.Delim (codes "=")
+    ∷ word_from kind.Delim (codes "|")
+    ∷ word_from kind.Delim (codes "^")
+    ∷ word_from kind.Delim (codes "$")
+    ∷ word_from kind.Comment (codes "/**/")
+    ∷ []
+
+-- does the text begin with none of these?
+abbrev pub begins_none : List Class → List ℕ → Bool
+begins_none set text = not (begins set (classes_of text))
+
+-- what makes a name longer, or a Function or `-->` of it
+abbrev pub after_ident : List Class
+after_ident = name ++ class.OpenParen ∷ class.Greater ∷ []

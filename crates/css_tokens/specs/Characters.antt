@@ -1,0 +1,127 @@
+-- The classes of characters that the tokens of CSS tell apart (CSS Syntax 3, section 4.2).
+use Rattle.std.specs.Prelude.{ℕ, List, [], ◌∷◌, Bool, ◌||◌, ◌&&◌, not, filter, nat_eq, nat_le, nat_lt, if◌then◌else◌}
+use Rattle.std.specs.List.{list_any}
+use Rattle.css_tokens.specs.declared.class.Class.{Class}
+use Rattle.css_tokens.specs.declared.class.Class.TheVariants as class
+
+-- is the byte one of these, or one from the first to the last?
+abbrev pub is_among : List ℕ → ℕ → Bool
+is_among bytes b = list_any (nat_eq b) bytes
+
+abbrev pub is_from_to : ℕ → ℕ → ℕ → Bool
+is_from_to first last b = nat_le first b && nat_le b last
+
+-- the class of a byte that is neither in names nor in numbers, nor white space
+abbrev pub mark_of : ℕ → Class
+mark_of b =
+    if nat_eq b 60 then class.Less
+    else (if nat_eq b 62 then class.Greater
+    else (if nat_eq b 33 then class.Bang
+    else (if nat_eq b 64 then class.At
+    else (if nat_eq b 37 then class.Percent
+    else (if nat_eq b 58 then class.Colon
+    else (if nat_eq b 59 then class.Semicolon
+    else (if nat_eq b 44 then class.Comma
+    else (if nat_eq b 40 then class.OpenParen
+    else (if nat_eq b 91 || nat_eq b 123 then class.Open
+    else (if nat_eq b 41 then class.CloseParen
+    else (if nat_eq b 93 || nat_eq b 125 then class.Close
+    else (if nat_eq b 92 then class.Backslash
+    else (if nat_le 128 b then class.High
+    else (if nat_lt b 32 || nat_eq b 127 then class.Control
+    else class.Symbol))))))))))))))
+
+-- the class of a byte
+abbrev pub class_of : ℕ → Class
+class_of b =
+    if nat_eq b 32 || nat_eq b 9 then class.Blank
+    else (if nat_eq b 10 || nat_eq b 13 || nat_eq b 12 then class.Newline
+    else (if nat_eq b 34 then class.DoubleQuote
+    else (if nat_eq b 39 then class.SingleQuote
+    else (if nat_eq b 35 then class.Hash
+    else (if nat_eq b 42 then class.Star
+    else (if nat_eq b 43 then class.Plus
+    else (if nat_eq b 45 then class.Minus
+    else (if nat_eq b 46 then class.Dot
+    else (if nat_eq b 47 then class.Slash
+    else (if is_from_to 48 57 b then class.Digit
+    else (if nat_eq b 101 || nat_eq b 69 then class.Exponent
+    else (if is_from_to 97 122 b || is_from_to 65 90 b || nat_eq b 95 then class.Letter
+    else mark_of b))))))))))))
+
+-- all classes
+abbrev pub classes : List Class
+classes =
+    class.Blank ∷ class.Newline ∷ class.DoubleQuote ∷ class.SingleQuote ∷ class.Hash ∷ class.Star ∷ class.Plus ∷ class.Minus ∷ class.Dot ∷ class.Slash
+    ∷ class.Digit ∷ class.Exponent ∷ class.Letter ∷ class.Less ∷ class.Greater ∷ class.Bang ∷ class.At ∷ class.Percent ∷ class.Colon ∷ class.Semicolon
+    ∷ class.Comma ∷ class.OpenParen ∷ class.Open ∷ class.CloseParen ∷ class.Close ∷ class.Symbol ∷ class.Backslash ∷ class.High ∷ class.Control ∷ []
+
+-- the place of a class among them
+abbrev pub place_of : Class → ℕ
+place_of class.Blank = 0
+place_of class.Newline = 1
+place_of class.DoubleQuote = 2
+place_of class.SingleQuote = 3
+place_of class.Hash = 4
+place_of class.Star = 5
+place_of class.Plus = 6
+place_of class.Minus = 7
+place_of class.Dot = 8
+place_of class.Slash = 9
+place_of class.Digit = 10
+place_of class.Exponent = 11
+place_of class.Letter = 12
+place_of class.Less = 13
+place_of class.Greater = 14
+place_of class.Bang = 15
+place_of class.At = 16
+place_of class.Percent = 17
+place_of class.Colon = 18
+place_of class.Semicolon = 19
+place_of class.Comma = 20
+place_of class.OpenParen = 21
+place_of class.Open = 22
+place_of class.CloseParen = 23
+place_of class.Close = 24
+place_of class.Symbol = 25
+place_of class.Backslash = 26
+place_of class.High = 27
+place_of class.Control = 28
+
+abbrev pub is_class : Class → Class → Bool
+is_class a b = nat_eq (place_of a) (place_of b)
+
+-- is the class in the set?
+abbrev pub has : List Class → Class → Bool
+has set c = list_any (is_class c) set
+
+-- every class but these
+abbrev pub other_than : List Class → List Class
+other_than set = filter (λ c. not (has set c)) classes
+
+-- white space, and the characters of names and of numbers; a character from U+0080 on is a name start, and so is each of its bytes here
+abbrev pub white : List Class
+white = class.Blank ∷ class.Newline ∷ []
+
+abbrev pub name_start : List Class
+name_start = class.Exponent ∷ class.Letter ∷ class.High ∷ []
+
+abbrev pub name : List Class
+name = class.Exponent ∷ class.Letter ∷ class.High ∷ class.Digit ∷ class.Minus ∷ []
+
+abbrev pub sign : List Class
+sign = class.Plus ∷ class.Minus ∷ []
+
+-- what a text may hold, the inside of a string between these quotes, and that of a Url
+abbrev pub in_text : List Class
+in_text = other_than (class.Control ∷ [])
+
+abbrev pub in_string : Class → List Class
+in_string quote = other_than (quote ∷ class.Newline ∷ class.Backslash ∷ class.Control ∷ [])
+
+abbrev pub in_url : List Class
+in_url = other_than (class.Blank ∷ class.Newline ∷ class.DoubleQuote ∷ class.SingleQuote ∷ class.OpenParen ∷ class.CloseParen ∷ class.Backslash ∷ class.Control ∷ [])
+
+-- the characters that are a Delim by themselves, `/` aside
+abbrev pub delim : List Class
+delim = class.Bang ∷ class.Hash ∷ class.Percent ∷ class.Star ∷ class.Plus ∷ class.Minus ∷ class.Dot ∷ class.Less ∷ class.Greater ∷ class.At ∷ class.Symbol ∷ []

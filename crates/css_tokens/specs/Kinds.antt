@@ -1,0 +1,140 @@
+-- The table of the kinds of tokens (CSS Syntax 3, section 4).
+use Rattle.std.specs.Prelude.{ℕ, nat_eq, List, [], ◌∷◌, Bool, false, ◌&&◌, not, Option, Some, None, if◌then◌else◌}
+use Rattle.css_tokens.specs.declared.kind.Kind.{Kind}
+use Rattle.css_tokens.specs.declared.kind.Kind.TheVariants as kind
+use Rattle.css_tokens.specs.declared.class.Class.{Class}
+use Rattle.css_tokens.specs.declared.class.Class.TheVariants as class
+use Rattle.std.specs.List.{list_any}
+use Rattle.css_tokens.specs.Characters.{is_class, white, name_start, name, sign, in_string, in_url, delim}
+use Rattle.css_tokens.specs.Patterns.{Pattern, One, Many, Closed, ◌∣◌, ◌⋅◌, optional, some, fits}
+
+-- one character of this class
+abbrev pub the : Class → Pattern
+the c = One (c ∷ [])
+
+abbrev pub white_space : Pattern
+white_space = some white
+
+abbrev pub comment : Pattern
+comment = the class.Slash ⋅ the class.Star ⋅ Closed false
+
+abbrev pub ident : Pattern
+ident = (the class.Minus ⋅ the class.Minus ⋅ Many name) ∣ (optional (the class.Minus) ⋅ One name_start ⋅ Many name)
+
+abbrev pub function : Pattern
+function = ident ⋅ the class.OpenParen
+
+abbrev pub at_keyword : Pattern
+at_keyword = the class.At ⋅ ident
+
+abbrev pub hash : Pattern
+hash = the class.Hash ⋅ some name
+
+abbrev pub quoted : Class → Pattern
+quoted quote = the quote ⋅ Many (in_string quote) ⋅ the quote
+
+abbrev pub string : Pattern
+string = quoted class.DoubleQuote ∣ quoted class.SingleQuote
+
+abbrev pub digits : Pattern
+digits = some (class.Digit ∷ [])
+
+abbrev pub fraction : Pattern
+fraction = the class.Dot ⋅ digits
+
+abbrev pub exponent : Pattern
+exponent = the class.Exponent ⋅ optional (One sign) ⋅ digits
+
+abbrev pub number : Pattern
+number = optional (One sign) ⋅ ((digits ⋅ optional fraction) ∣ fraction) ⋅ optional exponent
+
+abbrev pub percentage : Pattern
+percentage = number ⋅ the class.Percent
+
+abbrev pub dimension : Pattern
+dimension = number ⋅ ident
+
+abbrev pub cdo : Pattern
+cdo = the class.Less ⋅ the class.Bang ⋅ the class.Minus ⋅ the class.Minus
+
+abbrev pub cdc : Pattern
+cdc = the class.Minus ⋅ the class.Minus ⋅ the class.Greater
+
+-- what follows the `(` of a Url
+abbrev pub url_inside : Pattern
+url_inside = Many white ⋅ Many in_url ⋅ Many white ⋅ the class.CloseParen
+
+-- A row of the table: what spells the kind, and the characters of which none may follow.
+pub record Row : Type 0 where
+  pub kind : Kind
+  pub pattern : Pattern
+  pub barred : List Class
+
+abbrev pub row : Kind → Pattern → Row
+row kind pattern = record { kind = kind; pattern = pattern; barred = [] }
+
+-- The table. The first row that fits names the kind: where Number and Dimension spell the same text it is a Number.
+abbrev pub table : List Row
+table =
+    row kind.White white_space
+    ∷ row kind.Comment comment
+    ∷ row kind.Ident ident
+    ∷ row kind.Function function
+    ∷ row kind.At at_keyword
+    ∷ row kind.Hash hash
+    ∷ row kind.String string
+    ∷ row kind.Number number
+    ∷ row kind.Percentage percentage
+    ∷ row kind.Dimension dimension
+    ∷ row kind.Colon (the class.Colon)
+    ∷ row kind.Semicolon (the class.Semicolon)
+    ∷ row kind.Comma (the class.Comma)
+    ∷ row kind.Open (One (class.OpenParen ∷ class.Open ∷ []))
+    ∷ row kind.Close (One (class.CloseParen ∷ class.Close ∷ []))
+    ∷ row kind.Delim (One delim)
+    ∷ record { kind = kind.Delim; pattern = the class.Slash; barred = class.Star ∷ [] }
+    ∷ row kind.Cdo cdo
+    ∷ row kind.Cdc cdc
+    ∷ []
+
+-- the inside of a Url, as a table of its own
+abbrev pub url_table : List Row
+url_table = row kind.Url url_inside ∷ []
+
+-- does the text begin with this character, or with one of the set?
+abbrev pub starts : List Class → Class → Bool
+starts [] c = false
+starts (x ∷ s) c = is_class c x
+
+abbrev pub begins : List Class → List Class → Bool
+begins set s = list_any (starts s) set
+
+-- the kind of a text that stands before the text after
+abbrev pub kind_of : List Row → List Class → List Class → Option Kind
+kind_of [] text after = None
+kind_of (r ∷ rows) text after = if fits r.pattern text && not (begins r.barred after) then Some r.kind else kind_of rows text after
+
+-- the place of a kind among all kinds
+abbrev pub place_of_kind : Kind → ℕ
+place_of_kind kind.White = 0
+place_of_kind kind.Comment = 1
+place_of_kind kind.Ident = 2
+place_of_kind kind.Function = 3
+place_of_kind kind.Url = 4
+place_of_kind kind.At = 5
+place_of_kind kind.Hash = 6
+place_of_kind kind.String = 7
+place_of_kind kind.Number = 8
+place_of_kind kind.Percentage = 9
+place_of_kind kind.Dimension = 10
+place_of_kind kind.Colon = 11
+place_of_kind kind.Semicolon = 12
+place_of_kind kind.Comma = 13
+place_of_kind kind.Open = 14
+place_of_kind kind.Close = 15
+place_of_kind kind.Delim = 16
+place_of_kind kind.Cdo = 17
+place_of_kind kind.Cdc = 18
+
+abbrev pub is_kind : Kind → Kind → Bool
+is_kind a b = nat_eq (place_of_kind a) (place_of_kind b)

@@ -1,0 +1,410 @@
+-- The machine that reads one token: its states, as what is left of the rows of the table once a text has been read.
+use Rattle.std.specs.Prelude.{List, [], ◌∷◌, Bool, true, false, ◌||◌, ◌&&◌, not, Option, Some, None, if◌then◌else◌}
+use lib.Pointwise.{pointwise}
+use Rattle.css_tokens.specs.declared.kind.Kind.{Kind}
+use Rattle.css_tokens.specs.declared.kind.Kind.TheVariants as kind
+use Rattle.css_tokens.specs.declared.class.Class.{Class}
+use Rattle.css_tokens.specs.declared.class.Class.TheVariants as class
+use Rattle.css_tokens.specs.declared.machine.State.{State}
+use Rattle.css_tokens.specs.declared.machine.State.TheVariants as state
+use Rattle.css_tokens.specs.Characters.{has, is_class, in_text}
+use Rattle.css_tokens.specs.Patterns.{Pattern, Never, Empty, One, Many, Either, Then, Closed, fits}
+use Rattle.css_tokens.specs.Kinds.{Row, row, table, url_table, begins}
+
+abbrev pub is_set : List Class → List Class → Bool
+is_set a b = pointwise is_class a b
+
+-- are the patterns written alike?
+abbrev pub is_pattern : Pattern → Pattern → Bool
+is_pattern Never Never = true
+is_pattern Empty Empty = true
+is_pattern (One a) (One b) = is_set a b
+is_pattern (Many a) (Many b) = is_set a b
+is_pattern (Either p q) (Either r s) = is_pattern p r && is_pattern q s
+is_pattern (Then p q) (Then r s) = is_pattern p r && is_pattern q s
+is_pattern (Closed true) (Closed true) = true
+is_pattern (Closed false) (Closed false) = true
+is_pattern p q = false
+
+-- is q the pattern p, or one of its alternatives?
+abbrev pub holds : Pattern → Pattern → Bool
+holds (Either a b) q = is_pattern (Either a b) q || (holds a q || holds b q)
+holds Never q = is_pattern Never q
+holds Empty q = is_pattern Empty q
+holds (One a) q = is_pattern (One a) q
+holds (Many a) q = is_pattern (Many a) q
+holds (Then a b) q = is_pattern (Then a b) q
+holds (Closed b) q = is_pattern (Closed b) q
+
+abbrev pub is_never : Pattern → Bool
+is_never Never = true
+is_never Empty = false
+is_never (One a) = false
+is_never (Many a) = false
+is_never (Either p q) = false
+is_never (Then p q) = false
+is_never (Closed b) = false
+
+abbrev pub is_blank : Pattern → Bool
+is_blank Never = false
+is_blank Empty = true
+is_blank (One a) = false
+is_blank (Many a) = false
+is_blank (Either p q) = false
+is_blank (Then p q) = false
+is_blank (Closed b) = false
+
+-- the two patterns that fit what either fits, and what the one and then the other fit
+abbrev pub either : Pattern → Pattern → Pattern
+either p q = if is_never p then q else (if is_never q || holds p q then p else Either p q)
+
+abbrev pub followed : Pattern → Pattern → Pattern
+followed p q = if is_never p then Never else (if is_blank p then q else Then p q)
+
+-- what is left of a pattern once a character has been read (a Brzozowski derivative)
+abbrev pub derive : Class → Pattern → Pattern
+derive x Never = Never
+derive x Empty = Never
+derive x (One set) = if has set x then Empty else Never
+derive x (Many set) = if has set x then Many set else Never
+derive x (Either p q) = either (derive x p) (derive x q)
+derive x (Then p q) = either (followed (derive x p) q) (if fits p [] then derive x q else Never)
+derive x (Closed starred) = if starred && is_class x class.Slash then Empty else (if has in_text x then Closed (is_class x class.Star) else Never)
+
+-- what is left of a table
+abbrev pub derived : Class → List Row → List Row
+derived x [] = []
+derived x (r ∷ rows) =
+    let p = derive x r.pattern in
+    if is_never p then derived x rows else record { kind = r.kind; pattern = p; barred = r.barred } ∷ derived x rows
+
+abbrev pub after_all : List Class → List Row → List Row
+after_all [] rows = rows
+after_all (x ∷ s) rows = after_all s (derived x rows)
+
+-- what is left of the table in each state
+abbrev pub rows : State → List Row
+rows state.Start = after_all ([]) table
+rows state.White = after_all (class.Blank ∷ []) table
+rows state.Slash = after_all (class.Slash ∷ []) table
+rows state.Comment = after_all (class.Slash ∷ class.Star ∷ []) table
+rows state.CommentStar = after_all (class.Slash ∷ class.Star ∷ class.Star ∷ []) table
+rows state.DoubleQuoted = after_all (class.DoubleQuote ∷ []) table
+rows state.SingleQuoted = after_all (class.SingleQuote ∷ []) table
+rows state.Less = after_all (class.Less ∷ []) table
+rows state.LessBang = after_all (class.Less ∷ class.Bang ∷ []) table
+rows state.LessBangMinus = after_all (class.Less ∷ class.Bang ∷ class.Minus ∷ []) table
+rows state.Minus = after_all (class.Minus ∷ []) table
+rows state.MinusMinus = after_all (class.Minus ∷ class.Minus ∷ []) table
+rows state.Name = after_all (class.Letter ∷ []) table
+rows state.At = after_all (class.At ∷ []) table
+rows state.AtMinus = after_all (class.At ∷ class.Minus ∷ []) table
+rows state.AtName = after_all (class.At ∷ class.Letter ∷ []) table
+rows state.Hash = after_all (class.Hash ∷ []) table
+rows state.HashName = after_all (class.Hash ∷ class.Letter ∷ []) table
+rows state.Plus = after_all (class.Plus ∷ []) table
+rows state.Dot = after_all (class.Dot ∷ []) table
+rows state.Point = after_all (class.Plus ∷ class.Dot ∷ []) table
+rows state.Integer = after_all (class.Digit ∷ []) table
+rows state.Fraction = after_all (class.Dot ∷ class.Digit ∷ []) table
+rows state.Exponent = after_all (class.Digit ∷ class.Exponent ∷ []) table
+rows state.ExponentPlus = after_all (class.Digit ∷ class.Exponent ∷ class.Plus ∷ []) table
+rows state.ExponentMinus = after_all (class.Digit ∷ class.Exponent ∷ class.Minus ∷ []) table
+rows state.ExponentDigits = after_all (class.Digit ∷ class.Exponent ∷ class.Digit ∷ []) table
+rows state.ExponentDash = after_all (class.Digit ∷ class.Exponent ∷ class.Digit ∷ class.Minus ∷ []) table
+rows state.PlusDigits = after_all (class.Digit ∷ class.Exponent ∷ class.Plus ∷ class.Digit ∷ []) table
+rows state.UnitMinus = after_all (class.Digit ∷ class.Minus ∷ []) table
+rows state.Unit = after_all (class.Digit ∷ class.Letter ∷ []) table
+rows state.UrlStart = after_all ([]) url_table
+rows state.UrlWhite = after_all (class.Blank ∷ []) url_table
+rows state.UrlText = after_all (class.Letter ∷ []) url_table
+rows state.UrlAfter = after_all (class.Letter ∷ class.Blank ∷ []) url_table
+rows (state.End k) = row k Empty ∷ []
+rows state.Dead = []
+
+-- the steps of the machine, group by group
+abbrev pub from_start : Class → State
+from_start class.Blank = state.White
+from_start class.Newline = state.White
+from_start class.DoubleQuote = state.DoubleQuoted
+from_start class.SingleQuote = state.SingleQuoted
+from_start class.Hash = state.Hash
+from_start class.Plus = state.Plus
+from_start class.Minus = state.Minus
+from_start class.Dot = state.Dot
+from_start class.Slash = state.Slash
+from_start class.Digit = state.Integer
+from_start class.Exponent = state.Name
+from_start class.Letter = state.Name
+from_start class.High = state.Name
+from_start class.Less = state.Less
+from_start class.At = state.At
+from_start class.Colon = state.End kind.Colon
+from_start class.Semicolon = state.End kind.Semicolon
+from_start class.Comma = state.End kind.Comma
+from_start class.OpenParen = state.End kind.Open
+from_start class.Open = state.End kind.Open
+from_start class.CloseParen = state.End kind.Close
+from_start class.Close = state.End kind.Close
+from_start class.Star = state.End kind.Delim
+from_start class.Greater = state.End kind.Delim
+from_start class.Bang = state.End kind.Delim
+from_start class.Percent = state.End kind.Delim
+from_start class.Symbol = state.End kind.Delim
+from_start c = state.Dead
+
+abbrev pub from_text : State → Class → State
+from_text state.White class.Blank = state.White
+from_text state.White class.Newline = state.White
+from_text state.White c = state.Dead
+from_text state.Slash class.Star = state.Comment
+from_text state.Slash c = state.Dead
+from_text state.Comment class.Star = state.CommentStar
+from_text state.Comment class.Control = state.Dead
+from_text state.Comment c = state.Comment
+from_text state.CommentStar class.Slash = state.End kind.Comment
+from_text state.CommentStar class.Star = state.CommentStar
+from_text state.CommentStar class.Control = state.Dead
+from_text state.CommentStar c = state.Comment
+from_text state.DoubleQuoted class.DoubleQuote = state.End kind.String
+from_text state.DoubleQuoted class.Newline = state.Dead
+from_text state.DoubleQuoted class.Backslash = state.Dead
+from_text state.DoubleQuoted class.Control = state.Dead
+from_text state.DoubleQuoted c = state.DoubleQuoted
+from_text state.SingleQuoted class.SingleQuote = state.End kind.String
+from_text state.SingleQuoted class.Newline = state.Dead
+from_text state.SingleQuoted class.Backslash = state.Dead
+from_text state.SingleQuoted class.Control = state.Dead
+from_text state.SingleQuoted c = state.SingleQuoted
+from_text state.Less class.Bang = state.LessBang
+from_text state.Less c = state.Dead
+from_text state.LessBang class.Minus = state.LessBangMinus
+from_text state.LessBang c = state.Dead
+from_text state.LessBangMinus class.Minus = state.End kind.Cdo
+from_text state.LessBangMinus c = state.Dead
+from_text s c = state.Dead
+
+abbrev pub from_name : State → Class → State
+from_name state.Minus class.Minus = state.MinusMinus
+from_name state.Minus class.Exponent = state.Name
+from_name state.Minus class.Letter = state.Name
+from_name state.Minus class.High = state.Name
+from_name state.Minus class.Digit = state.Integer
+from_name state.Minus class.Dot = state.Point
+from_name state.Minus c = state.Dead
+from_name state.MinusMinus class.Exponent = state.Name
+from_name state.MinusMinus class.Letter = state.Name
+from_name state.MinusMinus class.High = state.Name
+from_name state.MinusMinus class.Digit = state.Name
+from_name state.MinusMinus class.Minus = state.Name
+from_name state.MinusMinus class.OpenParen = state.End kind.Function
+from_name state.MinusMinus class.Greater = state.End kind.Cdc
+from_name state.MinusMinus c = state.Dead
+from_name state.Name class.Exponent = state.Name
+from_name state.Name class.Letter = state.Name
+from_name state.Name class.High = state.Name
+from_name state.Name class.Digit = state.Name
+from_name state.Name class.Minus = state.Name
+from_name state.Name class.OpenParen = state.End kind.Function
+from_name state.Name c = state.Dead
+from_name state.At class.Minus = state.AtMinus
+from_name state.At class.Exponent = state.AtName
+from_name state.At class.Letter = state.AtName
+from_name state.At class.High = state.AtName
+from_name state.At c = state.Dead
+from_name state.AtMinus class.Minus = state.AtName
+from_name state.AtMinus class.Exponent = state.AtName
+from_name state.AtMinus class.Letter = state.AtName
+from_name state.AtMinus class.High = state.AtName
+from_name state.AtMinus c = state.Dead
+from_name state.AtName class.Exponent = state.AtName
+from_name state.AtName class.Letter = state.AtName
+from_name state.AtName class.High = state.AtName
+from_name state.AtName class.Digit = state.AtName
+from_name state.AtName class.Minus = state.AtName
+from_name state.AtName c = state.Dead
+from_name state.Hash class.Exponent = state.HashName
+from_name state.Hash class.Letter = state.HashName
+from_name state.Hash class.High = state.HashName
+from_name state.Hash class.Digit = state.HashName
+from_name state.Hash class.Minus = state.HashName
+from_name state.Hash c = state.Dead
+from_name state.HashName class.Exponent = state.HashName
+from_name state.HashName class.Letter = state.HashName
+from_name state.HashName class.High = state.HashName
+from_name state.HashName class.Digit = state.HashName
+from_name state.HashName class.Minus = state.HashName
+from_name state.HashName c = state.Dead
+from_name s c = state.Dead
+
+abbrev pub from_number : State → Class → State
+from_number state.Plus class.Digit = state.Integer
+from_number state.Plus class.Dot = state.Point
+from_number state.Plus c = state.Dead
+from_number state.Dot class.Digit = state.Fraction
+from_number state.Dot c = state.Dead
+from_number state.Point class.Digit = state.Fraction
+from_number state.Point c = state.Dead
+from_number state.Integer class.Digit = state.Integer
+from_number state.Integer class.Dot = state.Point
+from_number state.Integer class.Exponent = state.Exponent
+from_number state.Integer class.Letter = state.Unit
+from_number state.Integer class.High = state.Unit
+from_number state.Integer class.Minus = state.UnitMinus
+from_number state.Integer class.Percent = state.End kind.Percentage
+from_number state.Integer c = state.Dead
+from_number state.Fraction class.Digit = state.Fraction
+from_number state.Fraction class.Exponent = state.Exponent
+from_number state.Fraction class.Letter = state.Unit
+from_number state.Fraction class.High = state.Unit
+from_number state.Fraction class.Minus = state.UnitMinus
+from_number state.Fraction class.Percent = state.End kind.Percentage
+from_number state.Fraction c = state.Dead
+from_number state.UnitMinus class.Minus = state.Unit
+from_number state.UnitMinus class.Exponent = state.Unit
+from_number state.UnitMinus class.Letter = state.Unit
+from_number state.UnitMinus class.High = state.Unit
+from_number state.UnitMinus c = state.Dead
+from_number state.Unit class.Exponent = state.Unit
+from_number state.Unit class.Letter = state.Unit
+from_number state.Unit class.High = state.Unit
+from_number state.Unit class.Digit = state.Unit
+from_number state.Unit class.Minus = state.Unit
+from_number state.Unit c = state.Dead
+from_number s c = state.Dead
+
+abbrev pub from_exponent : State → Class → State
+from_exponent state.Exponent class.Digit = state.ExponentDigits
+from_exponent state.Exponent class.Plus = state.ExponentPlus
+from_exponent state.Exponent class.Minus = state.ExponentMinus
+from_exponent state.Exponent class.Exponent = state.Unit
+from_exponent state.Exponent class.Letter = state.Unit
+from_exponent state.Exponent class.High = state.Unit
+from_exponent state.Exponent c = state.Dead
+from_exponent state.ExponentPlus class.Digit = state.PlusDigits
+from_exponent state.ExponentPlus c = state.Dead
+from_exponent state.ExponentMinus class.Digit = state.ExponentDigits
+from_exponent state.ExponentMinus class.Minus = state.Unit
+from_exponent state.ExponentMinus class.Exponent = state.Unit
+from_exponent state.ExponentMinus class.Letter = state.Unit
+from_exponent state.ExponentMinus class.High = state.Unit
+from_exponent state.ExponentMinus c = state.Dead
+from_exponent state.ExponentDigits class.Digit = state.ExponentDigits
+from_exponent state.ExponentDigits class.Exponent = state.Unit
+from_exponent state.ExponentDigits class.Letter = state.Unit
+from_exponent state.ExponentDigits class.High = state.Unit
+from_exponent state.ExponentDigits class.Minus = state.ExponentDash
+from_exponent state.ExponentDigits class.Percent = state.End kind.Percentage
+from_exponent state.ExponentDigits c = state.Dead
+from_exponent state.ExponentDash class.Exponent = state.Unit
+from_exponent state.ExponentDash class.Letter = state.Unit
+from_exponent state.ExponentDash class.High = state.Unit
+from_exponent state.ExponentDash class.Digit = state.Unit
+from_exponent state.ExponentDash class.Minus = state.Unit
+from_exponent state.ExponentDash c = state.Dead
+from_exponent state.PlusDigits class.Digit = state.PlusDigits
+from_exponent state.PlusDigits class.Exponent = state.Unit
+from_exponent state.PlusDigits class.Letter = state.Unit
+from_exponent state.PlusDigits class.High = state.Unit
+from_exponent state.PlusDigits class.Minus = state.UnitMinus
+from_exponent state.PlusDigits class.Percent = state.End kind.Percentage
+from_exponent state.PlusDigits c = state.Dead
+from_exponent s c = state.Dead
+
+abbrev pub from_url : State → Class → State
+from_url state.UrlStart class.Blank = state.UrlWhite
+from_url state.UrlStart class.Newline = state.UrlWhite
+from_url state.UrlStart class.CloseParen = state.End kind.Url
+from_url state.UrlStart class.DoubleQuote = state.Dead
+from_url state.UrlStart class.SingleQuote = state.Dead
+from_url state.UrlStart class.OpenParen = state.Dead
+from_url state.UrlStart class.Backslash = state.Dead
+from_url state.UrlStart class.Control = state.Dead
+from_url state.UrlStart c = state.UrlText
+from_url state.UrlWhite class.Blank = state.UrlWhite
+from_url state.UrlWhite class.Newline = state.UrlWhite
+from_url state.UrlWhite class.CloseParen = state.End kind.Url
+from_url state.UrlWhite class.DoubleQuote = state.Dead
+from_url state.UrlWhite class.SingleQuote = state.Dead
+from_url state.UrlWhite class.OpenParen = state.Dead
+from_url state.UrlWhite class.Backslash = state.Dead
+from_url state.UrlWhite class.Control = state.Dead
+from_url state.UrlWhite c = state.UrlText
+from_url state.UrlText class.Blank = state.UrlAfter
+from_url state.UrlText class.Newline = state.UrlAfter
+from_url state.UrlText class.CloseParen = state.End kind.Url
+from_url state.UrlText class.DoubleQuote = state.Dead
+from_url state.UrlText class.SingleQuote = state.Dead
+from_url state.UrlText class.OpenParen = state.Dead
+from_url state.UrlText class.Backslash = state.Dead
+from_url state.UrlText class.Control = state.Dead
+from_url state.UrlText c = state.UrlText
+from_url state.UrlAfter class.Blank = state.UrlAfter
+from_url state.UrlAfter class.Newline = state.UrlAfter
+from_url state.UrlAfter class.CloseParen = state.End kind.Url
+from_url state.UrlAfter c = state.Dead
+from_url s c = state.Dead
+
+abbrev pub next : State → Class → State
+next state.Start c = from_start c
+next state.White c = from_text state.White c
+next state.Slash c = from_text state.Slash c
+next state.Comment c = from_text state.Comment c
+next state.CommentStar c = from_text state.CommentStar c
+next state.DoubleQuoted c = from_text state.DoubleQuoted c
+next state.SingleQuoted c = from_text state.SingleQuoted c
+next state.Less c = from_text state.Less c
+next state.LessBang c = from_text state.LessBang c
+next state.LessBangMinus c = from_text state.LessBangMinus c
+next state.Minus c = from_name state.Minus c
+next state.MinusMinus c = from_name state.MinusMinus c
+next state.Name c = from_name state.Name c
+next state.At c = from_name state.At c
+next state.AtMinus c = from_name state.AtMinus c
+next state.AtName c = from_name state.AtName c
+next state.Hash c = from_name state.Hash c
+next state.HashName c = from_name state.HashName c
+next state.Plus c = from_number state.Plus c
+next state.Dot c = from_number state.Dot c
+next state.Point c = from_number state.Point c
+next state.Integer c = from_number state.Integer c
+next state.Fraction c = from_number state.Fraction c
+next state.UnitMinus c = from_number state.UnitMinus c
+next state.Unit c = from_number state.Unit c
+next state.Exponent c = from_exponent state.Exponent c
+next state.ExponentPlus c = from_exponent state.ExponentPlus c
+next state.ExponentMinus c = from_exponent state.ExponentMinus c
+next state.ExponentDigits c = from_exponent state.ExponentDigits c
+next state.ExponentDash c = from_exponent state.ExponentDash c
+next state.PlusDigits c = from_exponent state.PlusDigits c
+next state.UrlStart c = from_url state.UrlStart c
+next state.UrlWhite c = from_url state.UrlWhite c
+next state.UrlText c = from_url state.UrlText c
+next state.UrlAfter c = from_url state.UrlAfter c
+next (state.End k) c = state.Dead
+next state.Dead c = state.Dead
+
+-- the kind of what has been read, before this text
+abbrev pub ended : State → List Class → Option Kind
+ended state.Slash after = if not (begins (class.Star ∷ []) after) then Some kind.Delim else None
+ended state.White after = Some kind.White
+ended state.Minus after = Some kind.Delim
+ended state.MinusMinus after = Some kind.Ident
+ended state.Name after = Some kind.Ident
+ended state.At after = Some kind.Delim
+ended state.AtName after = Some kind.At
+ended state.Hash after = Some kind.Delim
+ended state.HashName after = Some kind.Hash
+ended state.Plus after = Some kind.Delim
+ended state.Dot after = Some kind.Delim
+ended state.Less after = Some kind.Delim
+ended state.Integer after = Some kind.Number
+ended state.Fraction after = Some kind.Number
+ended state.ExponentDigits after = Some kind.Number
+ended state.PlusDigits after = Some kind.Number
+ended state.Exponent after = Some kind.Dimension
+ended state.ExponentMinus after = Some kind.Dimension
+ended state.ExponentDash after = Some kind.Dimension
+ended state.Unit after = Some kind.Dimension
+ended (state.End k) after = Some k
+ended s after = None

@@ -1,0 +1,59 @@
+-- Patterns of characters, and the texts that they fit.
+use Rattle.std.specs.Prelude.{List, [], ◌∷◌, Bool, true, false, ◌||◌, ◌&&◌, if◌then◌else◌}
+use Rattle.std.specs.List.{list_all}
+use Rattle.css_tokens.specs.declared.class.Class.{Class}
+use Rattle.css_tokens.specs.declared.class.Class.TheVariants as class
+use Rattle.css_tokens.specs.Characters.{has, is_class, in_text}
+
+-- `Closed` is what follows the `/*` of a comment: up to and including the first `*/`. Its flag says that a `*` stands right before.
+pub data Pattern : Type 0 where
+  Never : Pattern
+  Empty : Pattern
+  One : List Class → Pattern
+  Many : List Class → Pattern
+  Either : Pattern → Pattern → Pattern
+  Then : Pattern → Pattern → Pattern
+  Closed : Bool → Pattern
+
+infixr 30 ◌∣◌
+abbrev pub ◌∣◌ : Pattern → Pattern → Pattern
+p ∣ q = Either p q
+
+infixr 40 ◌⋅◌
+abbrev pub ◌⋅◌ : Pattern → Pattern → Pattern
+p ⋅ q = Then p q
+
+-- nothing or p, and one or more characters of the set
+abbrev pub optional : Pattern → Pattern
+optional p = p ∣ Empty
+
+abbrev pub some : List Class → Pattern
+some set = One set ⋅ Many set
+
+abbrev pub is_empty : List Class → Bool
+is_empty [] = true
+is_empty (x ∷ s) = false
+
+-- is there one character, and of the set?
+abbrev pub is_one : List Class → List Class → Bool
+is_one set [] = false
+is_one set (x ∷ s) = has set x && is_empty s
+
+-- can the text be cut so that the front passes the one test and the rest the other?
+abbrev pub any_cut : (List Class → Bool) → (List Class → Bool) → List Class → Bool
+any_cut front rest [] = front [] && rest []
+any_cut front rest (x ∷ s) = (front [] && rest (x ∷ s)) || any_cut (λ t. front (x ∷ t)) rest s
+
+-- does the first `*/` end the text?
+abbrev pub is_closed : Bool → List Class → Bool
+is_closed starred [] = false
+is_closed starred (x ∷ s) = if starred && is_class x class.Slash then is_empty s else (has in_text x && is_closed (is_class x class.Star) s)
+
+abbrev pub fits : Pattern → List Class → Bool
+fits Never s = false
+fits Empty s = is_empty s
+fits (One set) s = is_one set s
+fits (Many set) s = list_all (has set) s
+fits (Either p q) s = fits p s || fits q s
+fits (Then p q) s = any_cut (fits p) (fits q) s
+fits (Closed starred) s = is_closed starred s

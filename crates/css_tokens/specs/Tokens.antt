@@ -1,0 +1,123 @@
+-- The tokens of a text: what its first token is, what its tokens are, and where reading stops.
+use Rattle.std.specs.Prelude.{ℕ, ◌+◌, ◌<◌, ◌≤◌, List, [], ◌∷◌, map, length, take, drop, ◌≡◌, ◌⊎◌, Bool, true, false, ◌&&◌, ◌||◌, not, Option, Some, None, MatchOption, codes, nat_eq, nat_lt, if◌then◌else◌}
+use Rattle.std.specs.List.{list_all, position}
+use Rattle.std.specs.Option.{option_map, option_and_then}
+use Rattle.std.specs.Char.{to_ascii_lowercase}
+use lib.Pointwise.{pointwise}
+use Rattle.css_tokens.specs.declared.kind.Kind.{Kind}
+use Rattle.css_tokens.specs.declared.kind.Kind.TheVariants as kind
+use Rattle.css_tokens.specs.declared.class.Class.{Class}
+use Rattle.css_tokens.specs.declared.class.Class.TheVariants as class
+use Rattle.css_tokens.specs.Characters.{class_of, has, is_class, white}
+use Rattle.css_tokens.specs.Kinds.{Row, table, url_table, url_inside, kind_of, is_kind}
+use Rattle.css_tokens.specs.Patterns.{fits}
+use Rattle.css_tokens.specs.Piece.{Piece, Word, word_of, spelled}
+
+abbrev pub classes_of : List ℕ → List Class
+classes_of text = map class_of text
+
+abbrev pub or_else : {A : Type 0} → Option A → Option A → Option A
+or_else (Some x) other = Some x
+or_else None other = other
+
+-- a kind, and the length of the front that has it
+abbrev pub as_front : ℕ → Kind → Kind × ℕ
+as_front n k = (k, n)
+
+abbrev pub longer : ℕ → Kind × ℕ → Kind × ℕ
+longer n front = (front.0, front.1 + n)
+
+-- The longest front of the text that has a kind, where kind names that of a front before what follows it: one with the first character, or else the empty front.
+abbrev pub longest : (List Class → List Class → Option Kind) → List Class → Option (Kind × ℕ)
+longest kind [] = option_map (as_front 0) (kind [] [])
+longest kind (x ∷ s) = or_else (option_map (longer 1) (longest (λ front after. kind (x ∷ front) after) s)) (option_map (as_front 0) (kind [] (x ∷ s)))
+
+abbrev pub front_of : List Row → List ℕ → Option (Kind × ℕ)
+front_of rows text = longest (kind_of rows) (classes_of text)
+
+-- is this the Function `url(`, in any case of letters?
+abbrev pub is_url : List ℕ → Bool
+is_url text = pointwise nat_eq (map to_ascii_lowercase text) (codes "url(")
+
+-- is the first character that is not white space a quote?
+abbrev pub quote_follows : List Class → Bool
+quote_follows [] = false
+quote_follows (x ∷ s) = if has white x then quote_follows s else has (class.DoubleQuote ∷ class.SingleQuote ∷ []) x
+
+-- A Function `url(` stays one where a quote follows. Else it begins a Url, or else no kind is spelled there.
+abbrev pub url_rule : List ℕ → Kind × ℕ → Option (Kind × ℕ)
+url_rule text front =
+    if is_url (take front.1 text) && not (quote_follows (classes_of (drop front.1 text)))
+    then option_map (longer front.1) (front_of url_table (drop front.1 text))
+    else Some front
+
+abbrev pub first_front : List ℕ → Option (Kind × ℕ)
+first_front text = option_and_then (url_rule text) (front_of table text)
+
+abbrev pub word : List ℕ → Kind × ℕ → Word
+word text front = record { kind = front.0; text = take front.1 text }
+
+-- w is the first token of the text: its longest front that spells a kind, and the first kind of the table that it spells
+abbrev pub First : List ℕ → Word → Type 0
+First text w = option_map (word text) (first_front text) ≡ Some w
+
+-- something is left, and no front of it spells a kind
+abbrev pub IsStuck : List ℕ → Type 0
+IsStuck [] = ⊥
+IsStuck (b ∷ text) = first_front (b ∷ text) ≡ None
+
+abbrev pub names : Kind → Option Kind → Bool
+names k None = false
+names k (Some j) = is_kind k j
+
+-- does the text spell the kind, what follows it aside? By the table, or as a Url: `url(` and its inside
+unfoldable pub spells : Kind → List ℕ → Bool
+spells k text = names k (kind_of table (classes_of text) []) || (is_kind k kind.Url && (is_url (take 4 text) && fits url_inside (classes_of (drop 4 text))))
+
+-- `<!--` and `-->` are spelled, and not read
+abbrev pub is_refused : Kind → Bool
+is_refused kind.Cdo = true
+is_refused kind.Cdc = true
+is_refused k = false
+
+-- the text reads as these words, and then rest is left
+abbrev pub ReadsTo : List ℕ → List Word → List ℕ → Type 0
+ReadsTo text [] rest = text ≡ rest
+ReadsTo text (w ∷ ws) rest = First text w × (is_refused w.kind ≡ false) × ReadsTo (drop (length w.text) text) ws rest
+
+abbrev pub Reads : List ℕ → List Word → Type 0
+Reads text words = ReadsTo text words []
+
+-- each piece stands behind those before it, the first at this place
+abbrev pub IsPlaced : ℕ → List Piece → Type 0
+IsPlaced at [] = Unit {0}
+IsPlaced at (p ∷ ps) = (p.at ≡ at) × IsPlaced (at + length p.text) ps
+
+abbrev pub is_control : ℕ → Bool
+is_control b = is_class class.Control (class_of b)
+
+-- reading can't go on: no kind is spelled, or one that is not read
+abbrev pub Stops : List ℕ → Type 0
+Stops text = IsStuck text ⊎ ((w : Word) × First text w × (is_refused w.kind ≡ true))
+
+-- the place behind the words that are read, where reading can't go on
+abbrev pub StopsReading : List ℕ → ℕ → Type 0
+StopsReading text o = (words : List Word) × (rest : List ℕ) × ReadsTo text words rest × Stops rest × (o ≡ length (spelled words))
+
+-- where a text has no reading: at its first control character, or else where reading can't go on
+abbrev pub StopsAt : List ℕ → ℕ → Type 0
+StopsAt text o =
+    MatchOption (position is_control text)
+    (StopsReading text o)
+    (λ place. o ≡ place)
+
+-- the piece is the first token of the text, it is read, and it is not empty
+pub record Begins (text : List ℕ) (p : Piece) : Type 0 where
+  pub first : First text (word_of p)
+  pub read : is_refused p.kind ≡ false
+  pub whole : length p.text ≤ length text
+  pub some : 0 < length p.text
+
+-- is it ASCII, with no escape?
+abbrev pub is_plain : List ℕ → Bool
+is_plain text = list_all (λ b. nat_lt b 128 && not (nat_eq b 92)) text

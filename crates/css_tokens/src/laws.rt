@@ -1,0 +1,32 @@
+ghost use Rattle.std.specs.Prelude.{ℕ, List, ◌∷◌, [], ◌++◌, ◌≡◌, true, false, codes};
+ghost use Rattle.std.specs.List.{AllByRecursion};
+ghost use Rattle.css_tokens.specs.declared.class.Class.TheVariants as class;
+ghost use Rattle.css_tokens.specs.declared.kind.Kind.TheVariants as kind;
+ghost use Rattle.css_tokens.specs.Again.{StaysFirst, Alike, KeepsQuote, is_solid, word_from, marks, begins_none, after_ident};
+ghost use Rattle.css_tokens.specs.Characters.{name, white};
+ghost use Rattle.css_tokens.specs.Piece.{Word, spelled};
+ghost use Rattle.css_tokens.specs.Tokens.{Reads, ReadsTo, StopsAt, classes_of, is_url, quote_follows, spells};
+
+/// A text reads in at most one way, or has a fault at one place, and never both.
+pub fn one_reading()
+    ensures one { (t : List ℕ) (a b : List Word) → Reads t a → Reads t b → a ≡ b }
+    ensures place { (t : List ℕ) (o p : ℕ) → StopsAt t o → StopsAt t p → o ≡ p }
+    ensures either { (t : List ℕ) (ws : List Word) (o : ℕ) → Reads t ws → StopsAt t o → ⊥ }
+{}
+
+/// Words that are written one after another are read again. A token that is neither white space nor a comment stays the
+/// first where what follows it changes behind a stop (`specs/Again.antt`); for the Function `url(` a quote has to stay.
+pub fn words_again()
+    ensures keeps { (w : Word) (a b : List ℕ) → is_solid w.kind ≡ true → StaysFirst w a → Alike a b → (is_url w.text ≡ true → KeepsQuote a b) → StaysFirst w b }
+    ensures composes { (xs ys : List Word) (s r : List ℕ) → ReadsTo (spelled xs ++ s) xs s → ReadsTo s ys r → ReadsTo (spelled xs ++ s) (xs ++ ys) r }
+    ensures marks { AllByRecursion (λ w. (rest : List ℕ) → StaysFirst w rest) marks }
+    ensures dot { (rest : List ℕ) → begins_none (class.Digit ∷ []) rest ≡ true → StaysFirst (word_from kind.Delim (codes ".")) rest }
+    ensures plus { (rest : List ℕ) → begins_none (class.Digit ∷ class.Dot ∷ []) rest ≡ true → StaysFirst (word_from kind.Delim (codes "+")) rest }
+    ensures space { (rest : List ℕ) → begins_none white rest ≡ true → StaysFirst (word_from kind.White (codes " ")) rest }
+    ensures ident { (u rest : List ℕ) → spells kind.Ident u ≡ true → begins_none after_ident rest ≡ true → StaysFirst (word_from kind.Ident u) rest }
+    ensures hash { (u rest : List ℕ) → spells kind.Hash u ≡ true → begins_none name rest ≡ true → StaysFirst (word_from kind.Hash u) rest }
+    ensures at { (u rest : List ℕ) → spells kind.At u ≡ true → begins_none name rest ≡ true → StaysFirst (word_from kind.At u) rest }
+    ensures string { (u rest : List ℕ) → spells kind.String u ≡ true → StaysFirst (word_from kind.String u) rest }
+    ensures function { (u rest : List ℕ) → spells kind.Function u ≡ true → is_url u ≡ false → StaysFirst (word_from kind.Function u) rest }
+    ensures url { (u rest : List ℕ) → is_url u ≡ true → quote_follows (classes_of rest) ≡ true → StaysFirst (word_from kind.Function u) rest }
+{}
