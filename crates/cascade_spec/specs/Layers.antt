@@ -27,7 +27,7 @@ first_mention (mention ∷ mentions) path = if pointwise same_layer mention path
 
 -- For each step of a path, behind the steps before it, the place of its first mention. The end of the path counts as later than any mention.
 abbrev pub steps_of : List LayerPath → LayerPath → LayerPath → List ℕ
-steps_of mentions before [] = length mentions + 1 ∷ []
+steps_of mentions before [] = (length mentions + 1) ∷ []
 steps_of mentions before (step ∷ path) = first_mention mentions (before ++ step ∷ []) ∷ steps_of mentions (before ++ step ∷ []) path
 
 -- Of two paths that differ first at some step, the one whose step is mentioned earlier is lower. A path is lower than its own prefixes.

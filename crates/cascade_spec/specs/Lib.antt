@@ -4,3 +4,4 @@ pub mod Matching
 pub mod Layers
 pub mod Entries
 pub mod Cascade
+pub mod Readings

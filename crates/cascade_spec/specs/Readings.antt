@@ -1,0 +1,24 @@
+-- What it is for a text to read as a sheet (CSS Syntax 3, section 5), and for another text to keep its winners.
+use Rattle.std.specs.Prelude.{ℕ, List, [], ◌≡◌, IsTrue, Option}
+use Rattle.css_tokens.specs.declared.component.Component.{Component}
+use Rattle.css_tokens.specs.Tokens.{Reads}
+use Rattle.css_tokens.specs.Trees.{words_all, all_formed}
+use Rattle.css_rules.specs.declared.sheet.Sheet.{Sheet}
+use Rattle.css_rules.specs.Sheets.{sheet_of, sheet_refusals}
+use Rattle.css_rules.specs.Runs.{bare_runs}
+use Rattle.cascade_spec.specs.Cascade.{Question, winner}
+
+-- The text reads as these components, places aside: their words are its tokens, their brackets are paired, and nothing in them is refused.
+pub record ReadsAs (text : List ℕ) (components : List Component) : Type 0 where
+  pub reads : Reads text (words_all components)
+  pub formed : IsTrue (all_formed components)
+  pub faultless : sheet_refusals components ≡ []
+
+-- the text reads as this sheet, places aside
+abbrev pub HasSheet : List ℕ → Sheet → Type 0
+HasSheet text sheet = (components : List Component) × ReadsAs text components × (sheet ≡ sheet_of components)
+
+-- Under the sheet of the one text each winner is that under the sheet of the other, and it has one.
+pub record KeepsWinners (source written : List ℕ) : Type 0 where
+  pub readable : (sheet : Sheet) × HasSheet written sheet
+  pub same : (old new : Sheet) → HasSheet source old → HasSheet written new → (q : Question) → winner q (bare_runs new) ≡ winner q (bare_runs old)
