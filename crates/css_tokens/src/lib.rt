@@ -17,6 +17,6 @@ pub use kind::Kind;
 pub use laws::{one_reading, words_again};
 pub use list::List;
 pub use memory::OutOfMemory;
-pub use reader::{TokenFault, tokens};
+pub use reader::{TokenFault, is_plain_text, tokens};
 pub use text::Text;
 pub use token::Token;

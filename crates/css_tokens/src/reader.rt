@@ -75,6 +75,13 @@ pub fn tokens<'a>(alloc: Global, text: &'a [u8]) -> Result<List<Token<'a>>, Toke
     }
 }
 
+/// Whether the text is ASCII without `\\`, as `tokens` takes it. Takes no memory.
+pub fn is_plain_text(text: &[u8]) -> bool
+    ensures { result ≡ is_plain text.now }
+{
+    text.iter().all(|byte| *byte < 128 && *byte != b'\\')
+}
+
 /// The place of the first byte that no text may hold.
 fn control_place(text: &[u8]) -> Option<usize>
     ensures value { result ≡ position is_control text.now }
@@ -195,3 +202,6 @@ pub(crate) fn first(text: &[u8]) -> Option<(Kind, usize)>
     let inside = longest_front(State::UrlStart, &text[front.1..])?;
     Some((inside.0, inside.1 + front.1))
 }
+
+#[cfg(test)]
+mod tests;
