@@ -1,4 +1,6 @@
 pub mod formers
+pub mod Nests
+pub mod Pairing
 pub mod Piece
 pub mod Texts
 pub mod Trees

@@ -5,6 +5,7 @@ mod component;
 mod kind;
 mod list;
 mod memory;
+mod pairing;
 mod text;
 mod token;
 
@@ -12,5 +13,6 @@ pub use component::{Block, Component};
 pub use kind::Kind;
 pub use list::List;
 pub use memory::OutOfMemory;
+pub use pairing::{ComponentFault, components};
 pub use text::Text;
 pub use token::Token;

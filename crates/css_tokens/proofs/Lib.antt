@@ -1,0 +1,3 @@
+pub mod TreeInduction
+pub mod NestLemmas
+pub mod PairingLemmas
