@@ -1,3 +1,4 @@
 pub mod TreeInduction
+pub mod NameLemmas
 pub mod NestLemmas
 pub mod PairingLemmas

@@ -1,4 +1,5 @@
 pub mod formers
+pub mod Names
 pub mod Nests
 pub mod Pairing
 pub mod Piece
