@@ -1,4 +1,7 @@
 pub mod formers
+pub mod Appends
+pub mod NamePlaces
+pub mod NameText
 pub mod Names
 pub mod Nests
 pub mod Pairing

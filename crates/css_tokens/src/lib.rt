@@ -7,6 +7,7 @@ mod list;
 mod memory;
 mod name;
 mod pairing;
+mod print;
 mod text;
 mod token;
 
@@ -16,5 +17,6 @@ pub use list::List;
 pub use memory::OutOfMemory;
 pub use name::name_of;
 pub use pairing::{ComponentFault, components};
+pub use print::write_name;
 pub use text::Text;
 pub use token::Token;

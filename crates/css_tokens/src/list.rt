@@ -94,3 +94,14 @@ impl<T: Drop> List<T> {
         Ok(())
     }
 }
+
+impl<T: Copy> List<T> {
+    /// Adds copies of these items at the end. A refusal changes nothing.
+    pub fn extend_from_slice(&mut self, items: &[T]) -> Result<(), OutOfMemory>
+        ensures ok { OnOk result (self.new ≡ self.old ++ items.now) }
+        ensures err { OnErr result (self.new ≡ self.old) }
+    {
+        self.items.extend_from_slice(items)?;
+        Ok(())
+    }
+}
