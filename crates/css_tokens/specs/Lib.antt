@@ -5,6 +5,8 @@ pub mod NameText
 pub mod Names
 pub mod Nests
 pub mod Pairing
+pub mod Pendings
 pub mod Piece
 pub mod Texts
 pub mod Trees
+pub mod Values

@@ -10,6 +10,7 @@ mod pairing;
 mod print;
 mod text;
 mod token;
+mod value;
 
 pub use component::{Block, Component};
 pub use kind::Kind;
@@ -20,3 +21,4 @@ pub use pairing::{ComponentFault, components};
 pub use print::write_name;
 pub use text::Text;
 pub use token::Token;
+pub use value::write_value;

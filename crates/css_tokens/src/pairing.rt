@@ -63,7 +63,7 @@ struct Nest<'a> {
 }
 
 /// The text that closes what a token of this text opens.
-fn closing_text(opening: &str) -> &'static str
+pub(crate) fn closing_text(opening: &str) -> &'static str
     ensures { result.now ≡ closing_text opening.now }
 {
     match opening {

@@ -1,0 +1,49 @@
+-- Runs of gaps made single.
+use Rattle.std.proofs.Common.{◌≡◌, ℕ, List, [], ◌∷◌, ◌++◌, map, Bool, true, false, cond, ◌&&◌, refl, ap, sym, ◌∙◌, subst, append_assoc, inl, inr, ◌⊎◌, arith}
+use Rattle.css_tokens.specs.declared.kind.Kind.{Kind}
+use Rattle.css_tokens.specs.declared.kind.Kind.TheVariants.{White, Comment}
+use Rattle.css_tokens.specs.Values.{is_white, is_gap, before_run, single_gaps, after_gap, before_gap}
+
+-- white space, a comment, or neither
+pub kind_cases : (k : Kind) → (k ≡ White) ⊎ ((k ≡ Comment) ⊎ (is_gap k ≡ false))
+kind_cases White = inl refl
+kind_cases Comment = inr (inl refl)
+kind_cases _ = inr (inr refl)
+
+pub not_white : (k : Kind) → is_gap k ≡ false → is_white k ≡ false
+not_white White e = cc
+not_white _ e = refl
+
+pub bool_cases : (b : Bool) → (b ≡ true) ⊎ (b ≡ false)
+bool_cases true = inl refl
+bool_cases false = inr refl
+
+module _ {X : Type 0} (kind : X → Kind) where
+  pub run_solid : (x : X) (ys : List X) → is_gap (kind x) ≡ false → before_run kind x ys ≡ x ∷ ys
+  run_solid x [] e = refl
+  run_solid x (y ∷ ys) e = ap (λ b. cond (b && is_gap (kind y)) ((cond (is_white (kind x)) x y) ∷ ys) (x ∷ y ∷ ys)) e
+
+  pub run_before_solid : (x y : X) (ys : List X) → is_gap (kind x) ≡ true → is_gap (kind y) ≡ false → before_run kind x (y ∷ ys) ≡ x ∷ y ∷ ys
+  run_before_solid x y ys e f = ap (λ b. cond (b && is_gap (kind y)) ((cond (is_white (kind x)) x y) ∷ ys) (x ∷ y ∷ ys)) e ∙ ap (λ b. cond b ((cond (is_white (kind x)) x y) ∷ ys) (x ∷ y ∷ ys)) f
+
+  pub run_gaps : (x y : X) (ys : List X) → is_gap (kind x) ≡ true → is_gap (kind y) ≡ true → before_run kind x (y ∷ ys) ≡ (cond (is_white (kind x)) x y) ∷ ys
+  run_gaps x y ys e f = ap (λ b. cond (b && is_gap (kind y)) ((cond (is_white (kind x)) x y) ∷ ys) (x ∷ y ∷ ys)) e ∙ ap (λ b. cond b ((cond (is_white (kind x)) x y) ∷ ys) (x ∷ y ∷ ys)) f
+
+  -- of two gaps the one that is kept
+  pub kept : X → X → X
+  kept x y = cond (is_white (kind x)) x y
+
+  pub after_gap-run : (x : X) (ys : List X) → is_gap (kind x) ≡ true → after_gap kind (before_run kind x ys) ≡ after_gap kind ys
+  after_gap-run x [] e = ap (λ b. cond b [] (x ∷ [])) e
+  after_gap-run x (y ∷ ys) e = ?
+
+  pub run-run : (x y : X) (ys : List X) → is_gap (kind x) ≡ true → is_gap (kind y) ≡ true → before_run kind x (before_run kind y ys) ≡ before_run kind (cond (is_white (kind x)) x y) ys
+  run-run x y [] e f = run_gaps x y [] e f
+  run-run x y (z ∷ zs) e f = ?
+
+  pub before_gap-solid : (x : X) (ys : List X) → is_gap (kind x) ≡ false → before_gap kind (x ∷ ys) ≡ x ∷ before_gap kind ys
+  before_gap-solid x [] e = ap (λ b. cond b [] (x ∷ [])) e
+  before_gap-solid x (y ∷ ys) e = refl
+
+  pub after_gap-solid : (x : X) (ys : List X) → is_gap (kind x) ≡ false → after_gap kind (x ∷ ys) ≡ x ∷ ys
+  after_gap-solid x ys e = ap (λ b. cond b ys (x ∷ ys)) e
