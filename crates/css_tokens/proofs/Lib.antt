@@ -1,5 +1,6 @@
 pub mod AppendLemmas
 pub mod TreeInduction
+pub mod ValueLemmas
 pub mod WritingLemmas
 pub mod GapLemmas
 pub mod NameLemmas

@@ -2,9 +2,8 @@
 use Rattle.std.proofs.Common.{◌≡◌, ℕ, ◌<◌, ◌+◌, List, [], ◌∷◌, ◌++◌, map, Result, Ok, Err, refl, ap, sym, ◌∙◌, append_assoc, subst, take, drop, get_or, length}
 use Rattle.std.proofs.lemmas.Bool.{false≢true}
 use Rattle.std.specs.Result.{IsErr}
-use Rattle.std.specs.List.{flat_map}
 use Rattle.std.proofs.lemmas.Grind.{flat_map-append}
-use Rattle.std.proofs.lemmas.List.{append-nil, map-append, take_more, drop_more, take-append-drop, take_all}
+use Rattle.std.proofs.lemmas.List.{append-nil, map-append, take_more, drop_more, take-append-drop}
 use Rattle.css_tokens.specs.declared.memory.OutOfMemory.{OutOfMemory}
 use Rattle.css_tokens.specs.declared.value.Pending.{Pending}
 use Rattle.css_tokens.specs.declared.component.Component as component
@@ -13,7 +12,7 @@ use Rattle.css_tokens.specs.Piece.{Word, word_of}
 use Rattle.css_tokens.specs.Trees.{pieces_of, pieces_all, words_all, pieces_of-Block, closing}
 use Rattle.css_tokens.specs.Appends.{AppendsFront}
 use Rattle.css_tokens.specs.Pendings.{Writes, texts_after, pending_after, pending_next, word_text, block_words}
-use Rattle.css_tokens.proofs.AppendLemmas.{front_first, front_second, front_none}
+use Rattle.css_tokens.proofs.AppendLemmas.{front_first, front_second}
 
 pub texts_after-append : (p : Pending) (ws vs : List Word) → texts_after p (ws ++ vs) ≡ texts_after p ws ++ texts_after (pending_after p ws) vs
 texts_after-append p [] vs = refl
@@ -25,9 +24,10 @@ pending_after-append p (w ∷ ws) vs = pending_after-append (pending_next p w) w
 
 writes_more : (p q : Pending) (ws vs : List Word) (old mid new : List ℕ) (r : Result Pending OutOfMemory) → mid ≡ old ++ texts_after p ws → q ≡ pending_after p ws → Writes q vs mid new r → Writes p (ws ++ vs) old new r
 writes_more p q ws vs old mid new (Ok next) e f h =
-    let t : texts_after p (ws ++ vs) ≡ texts_after p ws ++ texts_after q vs = texts_after-append p ws vs ∙ ap (λ x. texts_after p ws ++ texts_after x vs) (sym f) in
-    (h.0 ∙ ap (λ x. x ++ texts_after q vs) e ∙ append_assoc old (texts_after p ws) (texts_after q vs) ∙ ap (λ x. old ++ x) (sym t),
-    h.1 ∙ ap (λ x. pending_after x vs) f ∙ sym (pending_after-append p ws vs))
+    let t : texts_after p (ws ++ vs) ≡ texts_after p ws ++ texts_after q vs = texts_after-append p ws vs ∙ ap (λ x. texts_after p ws ++ texts_after x vs) (sym f) in (
+      h.0 ∙ ap (λ x. x ++ texts_after q vs) e ∙ append_assoc old (texts_after p ws) (texts_after q vs) ∙ ap (λ x. old ++ x) (sym t),
+      h.1 ∙ ap (λ x. pending_after x vs) f ∙ sym (pending_after-append p ws vs),
+    )
 writes_more p q ws vs old mid new (Err e') e f h =
     let t : texts_after p (ws ++ vs) ≡ texts_after p ws ++ texts_after q vs = texts_after-append p ws vs ∙ ap (λ x. texts_after p ws ++ texts_after x vs) (sym f) in
     subst (AppendsFront old new) (sym t) (front_second old mid new (texts_after p ws) (texts_after q vs) e h)
@@ -42,7 +42,7 @@ failed : (p : Pending) (ws : List Word) (old new : List ℕ) (r : Result Pending
 failed p ws old new (Ok next) e h = absurd (false≢true e)
 failed p ws old new (Err e') e h = h
 
-front_of : (p : Pending) (ws : List Word) (old new : List ℕ) (r : Result Pending OutOfMemory) → IsErr r → Writes p ws old new r → AppendsFront old new (texts_after p ws)
+pub front_of : (p : Pending) (ws : List Word) (old new : List ℕ) (r : Result Pending OutOfMemory) → IsErr r → Writes p ws old new r → AppendsFront old new (texts_after p ws)
 front_of p ws old new (Ok next) e h = absurd (false≢true e)
 front_of p ws old new (Err e') e h = h
 

@@ -53,7 +53,12 @@ impl Pending {
 }
 
 /// Writes a word, or lets a gap wait.
-fn write_word(kind: Kind, text: &str, pending: Pending, out: &mut List<u8>) -> Result<Pending, OutOfMemory>
+fn write_word(
+    kind: Kind,
+    text: &str,
+    pending: Pending,
+    out: &mut List<u8>,
+) -> Result<Pending, OutOfMemory>
     ensures { Writes pending (record { kind = kind; text = text.now } ∷ []) out.old out.new result }
 {
     if is_gap(kind) {
@@ -66,7 +71,11 @@ fn write_word(kind: Kind, text: &str, pending: Pending, out: &mut List<u8>) -> R
 
 /// Writes components in order.
 #[cycle(write_components)]
-fn write_components(items: &[Component], pending: Pending, out: &mut List<u8>) -> Result<Pending, OutOfMemory>
+fn write_components(
+    items: &[Component],
+    pending: Pending,
+    out: &mut List<u8>,
+) -> Result<Pending, OutOfMemory>
     ensures { Writes pending (words_all items.now) out.old out.new result }
 {
     let mut waiting = pending;
@@ -77,7 +86,11 @@ fn write_components(items: &[Component], pending: Pending, out: &mut List<u8>) -
 }
 
 #[cycle(write_components)]
-fn write_component(item: &Component, pending: Pending, out: &mut List<u8>) -> Result<Pending, OutOfMemory>
+fn write_component(
+    item: &Component,
+    pending: Pending,
+    out: &mut List<u8>,
+) -> Result<Pending, OutOfMemory>
     ensures { Writes pending (map word_of (pieces_of item.now)) out.old out.new result }
 {
     match item {
