@@ -1,6 +1,8 @@
 pub mod AppendLemmas
+pub mod Rebuilt
 pub mod TreeInduction
 pub mod ValueLemmas
+pub mod Verdicts
 pub mod WritingLemmas
 pub mod GapLemmas
 pub mod NameLemmas

@@ -7,6 +7,7 @@ pub mod Nests
 pub mod Pairing
 pub mod Pendings
 pub mod Piece
+pub mod Refusals
 pub mod Texts
 pub mod Trees
 pub mod Values

@@ -17,7 +17,7 @@ pub use kind::Kind;
 pub use list::List;
 pub use memory::OutOfMemory;
 pub use name::name_of;
-pub use pairing::{ComponentFault, components};
+pub use pairing::{ComponentFault, components, one_pairing};
 pub use print::write_name;
 pub use text::Text;
 pub use token::Token;

@@ -2,6 +2,7 @@ ghost use Rattle.std.specs.Prelude.{◌≡◌, ◌⊎◌, ◌≤◌, ◌<◌, �
 ghost use Rattle.std.specs.List.{AllPairs};
 ghost use Rattle.css_tokens.specs.Pairing.{awaited_next, closed_by, IsPaired, IsMismatch, IsTooDeep, IsUnclosed};
 ghost use Rattle.css_tokens.specs.Trees.{pieces_all, all_formed, opens, closes, closing_text};
+ghost use Rattle.css_tokens.specs.Refusals.{IsRefusal};
 ghost use Rattle.css_tokens.specs.Nests.{nest_pieces, nest_awaited, nest_formed, IsOneTooDeep};
 
 use crate::{Block, Component, Kind, List, OutOfMemory, Token};
@@ -165,16 +166,12 @@ impl<'a> Nest<'a> {
     }
 }
 
-/// The components that the tokens of a text of `end` bytes make. Syntax at a closing token that does not match the
-/// innermost open one, or at `end` where a block is open. Depth at an opening token that makes the depth 65.
-/// (CSS Syntax 3, section 5.4.)
-pub fn components<'a>(
+/// What `components` does, told from its answer.
+fn paired<'a>(
     alloc: Global,
     tokens: &[Token<'a>],
     end: u32,
 ) -> Result<List<Component<'a>>, ComponentFault>
-    requires rise { AllPairs (λ a b. a.at < b.at) tokens.now }
-    requires within { All (λ t. t.at ≤ end) tokens.now }
     ensures paired { IfOk result (λ cs. (pieces_all cs ≡ tokens.now) × IsTrue (all_formed cs)) }
     ensures ok { OnOk result (IsPaired tokens.now) }
     ensures syntax { (o : ℕ) → IsErrOf result (ComponentFault.Syntax o) → IsMismatch tokens.now o ⊎ IsUnclosed tokens.now end o }
@@ -194,3 +191,31 @@ pub fn components<'a>(
         Err(ComponentFault::Syntax(end))
     }
 }
+
+/// The components that the tokens of a text of `end` bytes make. Syntax at a closing token that does not match the
+/// innermost open one, or at `end` where a block is open. Depth at an opening token that makes the depth 65.
+/// (CSS Syntax 3, section 5.4.)
+pub fn components<'a>(
+    alloc: Global,
+    tokens: &[Token<'a>],
+    end: u32,
+) -> Result<List<Component<'a>>, ComponentFault>
+    requires rise { AllPairs (λ a b. a.at < b.at) tokens.now }
+    requires within { All (λ t. t.at ≤ end) tokens.now }
+    ensures paired { IfOk result (λ cs. (pieces_all cs ≡ tokens.now) × IsTrue (all_formed cs)) }
+    ensures ok { OnOk result (IsPaired tokens.now) }
+    ensures syntax { (o : ℕ) → IsErrOf result (ComponentFault.Syntax o) → IsMismatch tokens.now o ⊎ IsUnclosed tokens.now end o }
+    ensures depth { (o : ℕ) → IsErrOf result (ComponentFault.Depth o) → IsTooDeep tokens.now o }
+
+    // Each fault is named, unless memory runs out.
+    ensures mismatch { (o : ℕ) → IsMismatch tokens.now o → IsRefusal result (ComponentFault.Syntax o) }
+    ensures unclosed { (o : ℕ) → IsUnclosed tokens.now end o → IsRefusal result (ComponentFault.Syntax o) }
+    ensures deep { (o : ℕ) → IsTooDeep tokens.now o → IsRefusal result (ComponentFault.Depth o) }
+{
+    paired(alloc, tokens, end)
+}
+
+/// Tokens make one list of components at most.
+pub fn one_pairing()
+    ensures { (a b : List Component) → pieces_all a ≡ pieces_all b → IsTrue (all_formed a) → IsTrue (all_formed b) → a ≡ b }
+{}
