@@ -1,4 +1,7 @@
+pub mod AgainLemmas
+pub mod AgainWords
 pub mod AppendLemmas
+pub mod PlainNameLemmas
 pub mod Rebuilt
 pub mod TreeInduction
 pub mod ValueLemmas

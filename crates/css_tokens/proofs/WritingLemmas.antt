@@ -51,10 +51,10 @@ pub writes_stopped : (p : Pending) (ws vs : List Word) (old new : List ℕ) (fir
 writes_stopped p ws vs old new first r e f h =
     failed p (ws ++ vs) old new r f (subst (AppendsFront old new) (sym (texts_after-append p ws vs)) (front_first old new (texts_after p ws) _ (front_of p ws old new first e h)))
 
-words_all-append : (cs ds : List component.Component) → words_all (cs ++ ds) ≡ words_all cs ++ words_all ds
+pub words_all-append : (cs ds : List component.Component) → words_all (cs ++ ds) ≡ words_all cs ++ words_all ds
 words_all-append cs ds = ap (map word_of) (flat_map-append pieces_of cs ds) ∙ map-append word_of (pieces_all cs) (pieces_all ds)
 
-words_all-cons : (c : component.Component) (cs : List component.Component) → words_all (c ∷ cs) ≡ map word_of (pieces_of c) ++ words_all cs
+pub words_all-cons : (c : component.Component) (cs : List component.Component) → words_all (c ∷ cs) ≡ map word_of (pieces_of c) ++ words_all cs
 words_all-cons c cs = map-append word_of (pieces_of c) (pieces_all cs)
 
 module _ (cs : List component.Component) (i : ℕ) (c : component.Component) (within : i < length cs) (is : c ≡ get_or cs i c) where

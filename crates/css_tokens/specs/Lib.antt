@@ -1,4 +1,5 @@
 pub mod formers
+pub mod Again
 pub mod Appends
 pub mod NamePlaces
 pub mod NameText
@@ -7,6 +8,7 @@ pub mod Nests
 pub mod Pairing
 pub mod Pendings
 pub mod Piece
+pub mod PlainNames
 pub mod Refusals
 pub mod Texts
 pub mod Trees
