@@ -2,7 +2,9 @@ pub mod AgainLemmas
 pub mod AgainWords
 pub mod AppendLemmas
 pub mod PlainNameLemmas
+pub mod PrintedAgain
 pub mod Rebuilt
+pub mod SingleGaps
 pub mod TreeInduction
 pub mod ValueLemmas
 pub mod Verdicts

@@ -1,7 +1,8 @@
-ghost use Rattle.std.specs.Prelude.{◌≡◌, ◌≢◌, ◌⊎◌, ◌<◌, if◌then◌else◌, ℕ, [], ◌∷◌, ◌++◌, OnOk, OnErr, codes, true, false};
+ghost use Rattle.std.specs.Prelude.{◌≡◌, ◌≢◌, ◌⊎◌, ◌<◌, if◌then◌else◌, ℕ, [], ◌∷◌, ◌++◌, IsTrue, OnOk, OnErr, codes, true, false};
 ghost use Rattle.std.specs.Fmt.{digit_glyph};
 ghost use Rattle.css_tokens.specs.Appends.{AppendsFront};
 ghost use Rattle.css_tokens.specs.NameText.{name_text, code_escape, char_text, first_text, needs_code, stands_for_itself};
+ghost use Rattle.css_tokens.specs.PlainNames.{is_plain_name};
 ghost use Rattle.css_tokens.specs.NamePlaces.{place_after, is_early};
 
 use crate::{List, OutOfMemory};
@@ -121,3 +122,8 @@ pub fn write_name(name: &str, out: &mut List<u8>) -> Result<(), OutOfMemory>
     }
     Ok(())
 }
+
+/// A name of ASCII letters, digits, `_` and `-` that spells an Ident prints as it is.
+pub fn plain_name()
+    ensures { (name : List ℕ) → IsTrue (is_plain_name name) → name_text name ≡ name }
+{}

@@ -1,8 +1,10 @@
-ghost use Rattle.std.specs.Prelude.{◌≡◌, ◌++◌, ◌∷◌, [], map, OnOk, OnErr};
+ghost use Rattle.std.specs.Prelude.{◌≡◌, ◌++◌, ◌∷◌, [], map, IsTrue, OnOk, OnErr};
+ghost use Rattle.std.specs.List.{filter};
 ghost use Rattle.css_tokens.specs.Appends.{AppendsFront};
 ghost use Rattle.css_tokens.specs.Piece.{word_of};
-ghost use Rattle.css_tokens.specs.Trees.{pieces_of, words_all};
-ghost use Rattle.css_tokens.specs.Values.{is_gap, value_text};
+ghost use Rattle.css_tokens.specs.Trees.{pieces_of, words_all, all_formed};
+ghost use Rattle.css_tokens.specs.Values.{is_gap, value_words, value_text};
+ghost use Rattle.css_tokens.specs.Again.{again, value_again, is_solid};
 ghost use Rattle.css_tokens.specs.Pendings.{after_waiting_gap, pending_text, block_words, Writes};
 
 use crate::pairing::closing_text;
@@ -117,3 +119,13 @@ pub fn write_value(value: &[Component], out: &mut List<u8>) -> Result<(), OutOfM
     write_components(value, Pending::Start, out)?;
     Ok(())
 }
+
+/// What a value's printed text is made of: its words, its text, and its components other than white space and comments.
+pub fn printed_again()
+    ensures words { (v : List Component) → IsTrue (all_formed v) → words_all (value_again v) ≡ value_words v }
+    ensures formed { (v : List Component) → IsTrue (all_formed v) → IsTrue (all_formed (value_again v)) }
+    ensures text { (v : List Component) → IsTrue (all_formed v) → value_text (value_again v) ≡ value_text v }
+    ensures solid { (v : List Component) → filter is_solid (value_again v) ≡ map again (filter is_solid v) }
+    ensures starts { (v cs : List Component) (c : Component) → value_again v ≡ c ∷ cs → IsTrue (is_solid c) }
+    ensures ends { (v cs : List Component) (c : Component) → value_again v ≡ cs ++ c ∷ [] → IsTrue (is_solid c) }
+{}
