@@ -8,6 +8,7 @@ pub mod SingleGaps
 pub mod TreeInduction
 pub mod ValueLemmas
 pub mod Verdicts
+pub mod Walk
 pub mod WritingLemmas
 pub mod GapLemmas
 pub mod NameLemmas

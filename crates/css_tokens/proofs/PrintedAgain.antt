@@ -13,10 +13,10 @@ use Rattle.css_tokens.proofs.AgainLemmas.{head_kind-again}
 use Rattle.css_tokens.proofs.AgainWords.{words_value_again}
 use Rattle.css_tokens.proofs.SingleGaps.{EachOf, StartsSolid, EndsSolid, single_gaps_no_runs, single_gaps-same, after_gap_no_runs, after_gap_starts, after_gap-same, before_gap_starts, before_gap_no_runs, before_gap_ends, before_gap-same, last_solid, filter-single_gaps, filter-after_gap, filter-before_gap, single_gaps_have, after_gap_has, before_gap_has}
 
-abbrev IsShort : Word → Type 0
+abbrev pub IsShort : Word → Type 0
 IsShort w = short_word w ≡ w
 
-short-short : (w : Word) → IsShort (short_word w)
+pub short-short : (w : Word) → IsShort (short_word w)
 short-short w = elim (kind_cases w.kind) [
   | inl e ↦ subst (λ (k : Kind). IsShort (short_word (record { kind = k; text = w.text }))) (sym e) refl
   | inr other ↦ elim other [
@@ -25,7 +25,7 @@ short-short w = elim (kind_cases w.kind) [
   ]
 ]
 
-all_short : (ws : List Word) → EachOf IsShort (map short_word ws)
+pub all_short : (ws : List Word) → EachOf IsShort (map short_word ws)
 all_short [] = tt
 all_short (w ∷ ws) = (short-short w, all_short ws)
 

@@ -28,7 +28,7 @@ module _ {X : Type 0} (kind : X → Kind) where
   EndsSolid (x ∷ []) = is_gap (kind x) ≡ false
   EndsSolid (x ∷ y ∷ ys) = EndsSolid (y ∷ ys)
 
-  second_false : (a b : Bool) → (a && b) ≡ false → a ≡ true → b ≡ false
+  pub second_false : (a b : Bool) → (a && b) ≡ false → a ≡ true → b ≡ false
   second_false true b e f = e
   second_false false b e f = cc
 
