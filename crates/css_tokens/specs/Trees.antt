@@ -2,7 +2,7 @@
 use Rattle.std.specs.Prelude.{ℕ, List, [], ◌∷◌, ◌++◌, flat_map, map, ◌≡◌, Bool, true, false, ◌&&◌, codes, not, if◌then◌else◌, nat_eq}
 use Rattle.std.specs.List.{list_all}
 use Rattle.std.proofs.Common.{◌∙◌, ap}
-use Rattle.std.proofs.lemmas.List.Folds.{flat_map-map}
+use Rattle.std.proofs.lemmas.List.Folds.{flat_map-map, list_all-map}
 use lib.Pointwise.{pointwise}
 use Rattle.css_tokens.specs.declared.kind.Kind.{Kind}
 use Rattle.css_tokens.specs.declared.kind.Kind.TheVariants.{White, Comment, Ident, Function, Url, At, Hash, String, Number, Percentage, Dimension, Colon, Semicolon, Comma, Open, Close, Delim, Cdo, Cdc}
@@ -111,3 +111,12 @@ pieces_of-Single p = fold_out-Component (List Piece) (List Piece) component_piec
 
 pub pieces_of-Block : (b : block.Block) → pieces_of (component.Block b) ≡ b.opening ∷ pieces_all b.items ++ closing b.opening b.close ∷ []
 pieces_of-Block b = fold_out-Component (List Piece) (List Piece) component_pieces block_pieces (component.Block b) ∙ ap layer_pieces (outs-Block b) ∙ block.fold_out-Block (List Piece) (List Piece) component_pieces block_pieces b ∙ ap (λ inner. b.opening ∷ inner ++ closing b.opening b.close ∷ []) (flat_map-map (λ pieces. pieces) pieces_of b.items)
+
+abbrev layer_formed : Component-F Component block.Block → Bool
+layer_formed v = component_formed (component.map-Component Component block.Block Bool Bool (fold-Component Bool Bool component_formed block_formed) (block.fold-Block Bool Bool component_formed block_formed) v)
+
+pub is_formed-Single : (p : Piece) → is_formed (component.Single p) ≡ (not (opens p.kind) && not (closes p.kind))
+is_formed-Single p = fold_out-Component Bool Bool component_formed block_formed (component.Single p) ∙ ap layer_formed (outs-Single p)
+
+pub is_formed-Block : (b : block.Block) → is_formed (component.Block b) ≡ (opens b.opening.kind && all_formed b.items)
+is_formed-Block b = fold_out-Component Bool Bool component_formed block_formed (component.Block b) ∙ ap layer_formed (outs-Block b) ∙ block.fold_out-Block Bool Bool component_formed block_formed b ∙ ap (λ r. opens b.opening.kind && r) (list_all-map (λ formed. formed) is_formed b.items)

@@ -1,0 +1,51 @@
+-- How a value is written, word by word: a gap waits until the next word shows that the value goes on.
+use Rattle.std.specs.Prelude.{ℕ, List, [], ◌∷◌, ◌++◌, if◌then◌else◌, codes, ◌≡◌, Result, Ok, Err}
+use Rattle.css_tokens.specs.declared.kind.Kind.{Kind}
+use Rattle.css_tokens.specs.declared.value.Pending.{Pending}
+use Rattle.css_tokens.specs.declared.value.Pending.TheVariants.{Start, Nothing, Comment, Space}
+use Rattle.css_tokens.specs.Piece.{Word, word_of}
+use Rattle.css_tokens.specs.declared.component.Block.{Block}
+use Rattle.css_tokens.specs.Trees.{words_all, closing}
+use Rattle.css_tokens.specs.declared.memory.OutOfMemory.{OutOfMemory}
+use Rattle.css_tokens.specs.Appends.{AppendsFront}
+use Rattle.css_tokens.specs.Values.{is_white, is_gap}
+
+-- what waits after a gap
+abbrev pub after_waiting_gap : Pending → Kind → Pending
+after_waiting_gap Start kind = Start
+after_waiting_gap Nothing kind = if is_white kind then Space else Comment
+after_waiting_gap Comment kind = if is_white kind then Space else Comment
+after_waiting_gap Space kind = Space
+
+-- what waits after a word
+abbrev pub pending_next : Pending → Word → Pending
+pending_next p w = if is_gap w.kind then after_waiting_gap p w.kind else Nothing
+
+-- the text of what waits
+abbrev pub pending_text : Pending → List ℕ
+pending_text Start = []
+pending_text Nothing = []
+pending_text Comment = codes "/**/"
+pending_text Space = codes " "
+
+-- what a word makes certain
+abbrev pub word_text : Pending → Word → List ℕ
+word_text p w = if is_gap w.kind then [] else pending_text p ++ w.text
+
+-- the same of words in a row
+abbrev pub texts_after : Pending → List Word → List ℕ
+texts_after p [] = []
+texts_after p (w ∷ ws) = word_text p w ++ texts_after (pending_next p w) ws
+
+abbrev pub pending_after : Pending → List Word → Pending
+pending_after p [] = p
+pending_after p (w ∷ ws) = pending_after (pending_next p w) ws
+
+-- the words of a block, its opening and closing tokens among them
+abbrev pub block_words : Block → List Word
+block_words b = word_of b.opening ∷ words_all b.items ++ word_of (closing b.opening b.close) ∷ []
+
+-- The words are written, or a front of their text.
+abbrev pub Writes : Pending → List Word → List ℕ → List ℕ → Result Pending OutOfMemory → Type 0
+Writes p ws old new (Ok next) = (new ≡ old ++ texts_after p ws) × (next ≡ pending_after p ws)
+Writes p ws old new (Err e) = AppendsFront old new (texts_after p ws)
