@@ -1,2 +1,3 @@
+pub mod SelectorPlaces
 pub mod SelectorReading
 pub mod WritingLemmas

@@ -1,8 +1,10 @@
 pub mod BareSelectors
 pub mod Names
+pub mod ReadableSelectors
 pub mod SelectorFaults
 pub mod SelectorSteps
 pub mod SelectorTexts
+pub mod SelectorWords
 pub mod Selectors
 pub mod Signs
 pub mod Writing

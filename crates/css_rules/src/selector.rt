@@ -1,3 +1,4 @@
+pub mod laws;
 pub mod read;
 pub mod sign;
 pub mod write;
