@@ -1,3 +1,5 @@
+pub mod SelectorAgain
 pub mod SelectorPlaces
 pub mod SelectorReading
+pub mod SelectorSpelling
 pub mod WritingLemmas

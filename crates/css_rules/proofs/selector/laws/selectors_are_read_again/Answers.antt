@@ -1,5 +1,15 @@
-use Rattle.css_rules.proofs.SelectorPlaces.{list-words, faults-words}
+use Rattle.css_rules.proofs.SelectorAgain.{again-same, again-sound}
+use Rattle.css_rules.proofs.SelectorSpelling.{text-list, formed-list}
 use Rattle.css_rules.proofs.selector.laws.selectors_are_read_again.Goals as goal
 
+pub returns-clause-text : goal.returns-clause-text
+returns-clause-text c = text-list
+
+pub returns-clause-formed : goal.returns-clause-formed
+returns-clause-formed c = formed-list
+
 pub returns-clause-sound : goal.returns-clause-sound
-returns-clause-sound c = let a = faults-words in ?
+returns-clause-sound c = again-sound
+
+pub returns-clause-same : goal.returns-clause-same
+returns-clause-same c = again-same
