@@ -291,8 +291,11 @@ IsSingle c = (p : Piece) × (out-Component c ≡ Single p) × (pieces_of c ≡ p
 abbrev EndsClosed : Component → Type 0
 EndsClosed c = (front : List Piece) × (q : Piece) × (q.kind ≡ kinds.Close) × (pieces_of c ≡ front ++ q ∷ [])
 
+pub single-piece : (c : Component) (p : Piece) → out-Component c ≡ Single p → pieces_of c ≡ p ∷ []
+single-piece c p e = fold_out-Component (List Piece) (List Piece) component_pieces block_pieces c ∙ ap layer_pieces e
+
 single-or-closed : (c : Component) (v : Component-F Component block.Block) → out-Component c ≡ v → IsSingle c ⊎ EndsClosed c
-single-or-closed c (Single p) e = inl (p, e, fold_out-Component (List Piece) (List Piece) component_pieces block_pieces c ∙ ap layer_pieces e)
+single-or-closed c (Single p) e = inl (p, e, single-piece c p e)
 single-or-closed c (Block b) e = inr (b.opening ∷ pieces_all b.items, closing b.opening b.close, refl, fold_out-Component (List Piece) (List Piece) component_pieces block_pieces c ∙ ap layer_pieces e ∙ block.fold_out-Block (List Piece) (List Piece) component_pieces block_pieces b ∙ ap (λ inner. b.opening ∷ inner ++ closing b.opening b.close ∷ []) (flat_map-map (λ pieces. pieces) pieces_of b.items))
 
 and-right : (a b : Bool) → (a && b) ≡ true → b ≡ true

@@ -17,5 +17,4 @@ pub fn selectors_are_read_again()
     ensures sound { (bs : List BareSelector) (cs : List Component) (end : ℕ) → IsTrue (is_readable_list bs) → words_all cs ≡ words_all (list_again bs) → list_faults cs end ≡ [] }
     ensures same { (bs : List BareSelector) (cs : List Component) → IsTrue (is_readable_list bs) → words_all cs ≡ words_all (list_again bs) → bare_list (list_of cs) ≡ bs }
     ensures readable { (cs : List Component) (end : ℕ) → IsTrue (list_all is_spelled (words_all cs)) → list_faults cs end ≡ [] → IsTrue (is_readable_list (bare_list (list_of cs))) }
-{
-}
+{}
