@@ -1,4 +1,5 @@
 pub mod SelectorAgain
+pub mod SelectorNeighbours
 pub mod SelectorPlaces
 pub mod SelectorReadable
 pub mod SelectorReading

@@ -1,6 +1,7 @@
 pub mod BareSelectors
 pub mod Names
 pub mod ReadableSelectors
+pub mod SelectorAtoms
 pub mod SelectorFaults
 pub mod SelectorSteps
 pub mod SelectorTexts
