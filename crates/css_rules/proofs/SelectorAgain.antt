@@ -1,39 +1,28 @@
 -- What is written is read again.
 use Rattle.std.proofs.Common.{◌≡◌, ℕ, List, [], ◌∷◌, ◌++◌, map, Bool, true, false, not, ◌&&◌, ◌||◌, refl, sym, ap, ◌∙◌, append_assoc}
-use Rattle.std.specs.Prelude.{codes, Option, Some, None, is_some, is_none, option_map, flat_map, if◌then◌else◌}
+use Rattle.std.specs.Prelude.{Option, Some, None, is_some, is_none, flat_map, if◌then◌else◌}
 use Rattle.std.specs.List.{filter_map, cons_option, list_all}
 use Rattle.std.proofs.lemmas.Bool.{false≢true}
 use Rattle.std.proofs.lemmas.List.{map-append, append-nil}
-use Rattle.std.proofs.lemmas.List.Folds.{list_all-append}
-use Rattle.std.proofs.lemmas.Grind.{flat_map-append}
-use Rattle.css_tokens.specs.declared.kind.Kind.{Kind}
-use Rattle.css_tokens.specs.declared.kind.Kind.TheVariants as kinds
-use Rattle.css_tokens.specs.declared.component.Component.{Component, out-Component}
-use Rattle.css_tokens.specs.declared.component.Component as component
-use Rattle.css_tokens.specs.declared.component.Block as block
-use Rattle.css_tokens.specs.declared.component.Component.TheOpen.{Component-F, Single, Block}
-use Rattle.css_tokens.specs.declared.component.Component.TheFolds.{fold-Component, fold_out-Component}
-use Rattle.css_tokens.specs.declared.component.Component.TheVariants.{outs-Single}
-use Rattle.css_tokens.specs.Piece.{Piece, Word, word_of, spelled}
-use Rattle.css_tokens.specs.Trees.{opens, closes, pieces_of, pieces_all, words_all, pieces_of-Single, is_formed, all_formed, component_formed, block_formed}
+use Rattle.css_tokens.specs.declared.component.Component.{Component}
+use Rattle.css_tokens.specs.Piece.{Word}
+use Rattle.css_tokens.specs.Trees.{words_all}
 use Rattle.css_rules.specs.declared.selector.Combinator.{Combinator}
 use Rattle.css_rules.specs.declared.selector.Combinator.TheVariants as combinators
 use Rattle.css_rules.specs.declared.selector.TypeName.{TypeName}
 use Rattle.css_rules.specs.declared.selector.TypeName.TheVariants as types
 use Rattle.css_rules.specs.declared.selector.Simple.{Simple}
 use Rattle.css_rules.specs.declared.selector.Simple.TheVariants as simples
-use Rattle.css_rules.specs.declared.selector.Part.{Part}
 use Rattle.css_rules.specs.declared.selector.Compound.{Compound}
-use Rattle.css_rules.specs.declared.selector.Link.{Link}
 use Rattle.css_rules.specs.declared.selector.sign.Sign.{Sign}
 use Rattle.css_rules.specs.declared.selector.sign.Sign.TheVariants.{White, Child, Next, Later, Name, Star, Dot, Id, Parent, Other}
 use Rattle.css_rules.specs.Names.{is_ident}
 use Rattle.css_rules.specs.Signs.{is_comma_kind}
-use Rattle.css_rules.specs.Selectors.{with_part, parts_of, compound_with, compound_of, stripped, white_before, sign_before, spaced, clean_signs, Runs, cut_by, run_before, runs_of, with_link, links_of, selector_with, selector_of_runs, list_of, list_faults}
-use Rattle.css_rules.specs.BareSelectors.{BareCompound, BareSelector, bare_compound, bare_link, bare_selector, bare_list}
-use Rattle.css_rules.specs.ReadableSelectors.{is_readable_type, is_readable_simple, has_type, has_simples, is_readable_compound, is_readable_selector, has_selectors, is_readable_list}
+use Rattle.css_rules.specs.Selectors.{parts_of, compound_with, compound_of, stripped, white_before, spaced, clean_signs, Runs, cut_by, run_before, runs_of, links_of, selector_of_runs, list_of, list_faults}
+use Rattle.css_rules.specs.BareSelectors.{BareCompound, BareSelector, bare_list}
+use Rattle.css_rules.specs.ReadableSelectors.{is_readable_type, is_readable_simple, has_type, has_simples, is_readable_compound, is_readable_selector, is_readable_list}
 use Rattle.css_rules.specs.SelectorTexts.{compound_text, ends_in_dashes}
-use Rattle.css_rules.specs.SelectorWords.{comma, type_words, simple_words, compound_words, combinator_words, links_words, lead_words, selector_words, more_words, list_words, single_of, list_again}
+use Rattle.css_rules.specs.SelectorWords.{type_words, simple_words, compound_words, combinator_words, links_words, lead_words, selector_words, more_words, list_words, list_again}
 use Rattle.css_rules.proofs.SelectorPlaces.{is_plain, word_sign, word_cut, word_members, reading_of, is_read, simples_read, compound_read, links_read, selector_read, with_read_part, with_read_link, bare_with, bare_of_type, read-part, read-kind, read-link, read-selector, list-words, faults-words}
 use Rattle.css_rules.proofs.SelectorSpelling.{words-again, is_inner, inner-selector, plain-list, and-left, and-right}
 

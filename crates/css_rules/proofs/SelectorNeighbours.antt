@@ -1,36 +1,26 @@
 -- What stands next to each other in the text of a selector list.
 use Rattle.std.proofs.Common.{◌≡◌, ℕ, List, [], ◌∷◌, ◌++◌, map, Bool, true, false, not, ◌&&◌, ◌||◌, refl, sym, ap, ◌∙◌, append_assoc}
-use Rattle.std.specs.Prelude.{codes, Option, Some, None, is_some, is_none, option_map, flat_map, if◌then◌else◌}
-use Rattle.std.specs.List.{list_all, ends_with}
+use Rattle.std.specs.Prelude.{codes, Option, Some, None, is_none, flat_map}
+use Rattle.std.specs.List.{list_all}
 use Rattle.std.proofs.lemmas.Bool.{false≢true}
 use Rattle.std.proofs.lemmas.List.{map-append, append-nil}
 use Rattle.std.proofs.lemmas.List.Folds.{list_all-append}
-use Rattle.std.proofs.lemmas.Grind.{flat_map-append}
-use Rattle.css_tokens.specs.declared.kind.Kind.{Kind}
-use Rattle.css_tokens.specs.declared.kind.Kind.TheVariants as kinds
-use Rattle.css_tokens.specs.declared.component.Component.{Component, out-Component}
-use Rattle.css_tokens.specs.declared.component.Component as component
-use Rattle.css_tokens.specs.declared.component.Block as block
-use Rattle.css_tokens.specs.declared.component.Component.TheOpen.{Component-F, Single, Block}
-use Rattle.css_tokens.specs.declared.component.Component.TheFolds.{fold-Component, fold_out-Component}
-use Rattle.css_tokens.specs.declared.component.Component.TheVariants.{outs-Single}
-use Rattle.css_tokens.specs.Piece.{Piece, Word, word_of, spelled}
-use Rattle.css_tokens.specs.Trees.{opens, closes, pieces_of, pieces_all, words_all, pieces_of-Single, is_formed, all_formed, component_formed, block_formed}
+use Rattle.css_tokens.specs.Piece.{Word}
 use Rattle.css_rules.specs.declared.selector.Combinator.{Combinator}
 use Rattle.css_rules.specs.declared.selector.Combinator.TheVariants as combinators
 use Rattle.css_rules.specs.declared.selector.TypeName.{TypeName}
 use Rattle.css_rules.specs.declared.selector.TypeName.TheVariants as types
 use Rattle.css_rules.specs.declared.selector.Simple.{Simple}
 use Rattle.css_rules.specs.declared.selector.Simple.TheVariants as simples
-use Rattle.std.proofs.Common.{◌<◌, ◌≤◌, ◌-◌, ◌+◌, suc, zero, length, drop, arith}
+use Rattle.std.proofs.Common.{◌≤◌, ◌-◌, suc, length, drop, arith}
 use Rattle.std.specs.Prelude.{nat_eq}
 use lib.Pointwise.{pointwise}
 use Rattle.css_rules.specs.Names.{is_ident}
 use Rattle.css_rules.specs.BareSelectors.{BareCompound, BareSelector}
-use Rattle.css_rules.specs.ReadableSelectors.{is_readable_type, is_readable_simple, has_type, has_simples, is_readable_compound, is_readable_selector, has_selectors, is_readable_list}
+use Rattle.css_rules.specs.ReadableSelectors.{is_readable_type, is_readable_simple, has_type, has_simples, is_readable_compound, is_readable_selector, is_readable_list}
 use Rattle.css_rules.specs.SelectorTexts.{simple_text, type_text, compound_text, ends_in_dashes}
 use Rattle.css_rules.specs.SelectorWords.{type_words, simple_words, compound_words, combinator_words, links_words, lead_words, selector_words, more_words, list_words}
-use Rattle.css_rules.specs.SelectorAtoms.{Atom, name, hash, dot, star, amp, space, greater, plus, tilde, comma, atom_word, type_atoms, simple_atoms, compound_atoms, child_atoms, combinator_atoms, links_atoms, lead_atoms, selector_atoms, more_atoms, list_atoms, is_spelled_atom, is_behind_part, is_behind_name, begins_compound, may_follow, ends_compound, are_neighbours}
+use Rattle.css_rules.specs.SelectorAtoms.{Atom, name, hash, dot, star, amp, space, greater, plus, tilde, comma, atom_word, type_atoms, simple_atoms, compound_atoms, combinator_atoms, links_atoms, lead_atoms, selector_atoms, more_atoms, list_atoms, is_spelled_atom, begins_compound, may_follow, are_neighbours}
 use Rattle.css_rules.proofs.SelectorSpelling.{and-left, and-right, and-both}
 
 -- The atoms are the words.

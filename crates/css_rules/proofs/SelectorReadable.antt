@@ -1,23 +1,16 @@
 -- What a list without faults is read as has a spelling.
-use Rattle.std.proofs.Common.{◌≡◌, ℕ, List, [], ◌∷◌, ◌++◌, map, Bool, true, false, not, ◌&&◌, ◌||◌, refl, sym, ap, ◌∙◌, append_assoc}
-use Rattle.std.specs.Prelude.{codes, Option, Some, None, is_some, is_none, option_map, flat_map, if◌then◌else◌}
+use Rattle.std.proofs.Common.{◌≡◌, ℕ, List, [], ◌∷◌, ◌++◌, map, Bool, true, false, ◌&&◌, ◌||◌, refl, sym, ap, ◌∙◌}
+use Rattle.std.specs.Prelude.{codes, Option, Some, None, is_some, if◌then◌else◌}
 use Rattle.std.specs.List.{filter_map, cons_option, list_all}
 use Rattle.std.proofs.lemmas.Bool.{false≢true}
-use Rattle.std.proofs.lemmas.List.{map-append, append-nil}
-use Rattle.std.proofs.lemmas.List.Folds.{list_all-append}
-use Rattle.std.proofs.lemmas.Grind.{flat_map-append}
 use Rattle.css_tokens.specs.declared.kind.Kind.{Kind}
 use Rattle.css_tokens.specs.declared.kind.Kind.TheVariants as kinds
 use Rattle.css_tokens.specs.declared.component.Component.{Component, out-Component}
-use Rattle.css_tokens.specs.declared.component.Component as component
 use Rattle.css_tokens.specs.declared.component.Block as block
 use Rattle.css_tokens.specs.declared.component.Component.TheOpen.{Component-F, Single, Block}
-use Rattle.css_tokens.specs.declared.component.Component.TheFolds.{fold-Component, fold_out-Component}
-use Rattle.css_tokens.specs.declared.component.Component.TheVariants.{outs-Single}
-use Rattle.css_tokens.specs.Piece.{Piece, Word, word_of, spelled}
-use Rattle.css_tokens.specs.Trees.{opens, closes, pieces_of, pieces_all, words_all, pieces_of-Single, is_formed, all_formed, component_formed, block_formed}
+use Rattle.css_tokens.specs.Piece.{Piece, word_of}
+use Rattle.css_tokens.specs.Trees.{pieces_of, pieces_all, words_all}
 use Rattle.css_rules.specs.declared.selector.Combinator.{Combinator}
-use Rattle.css_rules.specs.declared.selector.Combinator.TheVariants as combinators
 use Rattle.css_rules.specs.declared.selector.TypeName.{TypeName}
 use Rattle.css_rules.specs.declared.selector.TypeName.TheVariants as types
 use Rattle.css_rules.specs.declared.selector.Simple.{Simple}
@@ -25,13 +18,11 @@ use Rattle.css_rules.specs.declared.selector.Simple.TheVariants as simples
 use Rattle.std.specs.Prelude.{unwrap_or, drop}
 use Rattle.css_tokens.specs.Trees.{is_text}
 use Rattle.css_rules.specs.declared.selector.Part.{Part}
-use Rattle.css_rules.specs.declared.selector.Compound.{Compound}
-use Rattle.css_rules.specs.declared.selector.Link.{Link}
 use Rattle.css_rules.specs.declared.selector.Selector.{Selector}
 use Rattle.css_rules.specs.declared.selector.sign.Sign.{Sign}
 use Rattle.css_rules.specs.declared.selector.sign.Sign.TheVariants.{Comment, White, Child, Next, Later, Name, Star, Dot, Id, Parent, Other}
 use Rattle.css_rules.specs.Names.{is_ident}
-use Rattle.css_rules.specs.Signs.{kind_sign, id_of, delim_of, sign_of, place_of, is_comma, open_sign}
+use Rattle.css_rules.specs.Signs.{kind_sign, sign_of, place_of, is_comma, open_sign}
 use Rattle.css_rules.specs.Selectors.{with_part, parts_of, compound_with, compound_of, stripped, white_before, sign_before, spaced, clean_signs, Runs, run_before, runs_of, links_of, selector_at, first_place, selector_of, Member, empty_before, with_component, cut_at_commas, members_of, fault_of, list_of, list_faults}
 use Rattle.css_rules.specs.BareSelectors.{BareCompound, BareSelector, bare_list}
 use Rattle.css_rules.specs.ReadableSelectors.{is_readable_type, is_readable_simple, has_type, has_simples, is_readable_compound, is_readable_selector, has_selectors, is_readable_list, is_spelled, is_spelled_kind}

@@ -1,21 +1,19 @@
 -- The components that the text of a list is made of, and the text that they spell.
-use Rattle.std.proofs.Common.{◌≡◌, ℕ, List, [], ◌∷◌, ◌++◌, map, Bool, true, false, not, ◌&&◌, ◌||◌, refl, sym, ap, ◌∙◌, append_assoc}
-use Rattle.std.specs.Prelude.{codes, Option, Some, None, is_some, is_none, option_map, flat_map, if◌then◌else◌}
-use Rattle.std.specs.List.{filter_map, cons_option, list_all}
+use Rattle.std.proofs.Common.{◌≡◌, ℕ, List, [], ◌∷◌, ◌++◌, map, Bool, true, false, not, ◌&&◌, refl, ap, ◌∙◌}
+use Rattle.std.specs.Prelude.{codes, Option, Some, None, flat_map}
+use Rattle.std.specs.List.{list_all}
 use Rattle.std.proofs.lemmas.Bool.{false≢true}
-use Rattle.std.proofs.lemmas.List.{map-append, append-nil}
+use Rattle.std.proofs.lemmas.List.{append-nil}
 use Rattle.std.proofs.lemmas.List.Folds.{list_all-append}
 use Rattle.std.proofs.lemmas.Grind.{flat_map-append}
-use Rattle.css_tokens.specs.declared.kind.Kind.{Kind}
-use Rattle.css_tokens.specs.declared.kind.Kind.TheVariants as kinds
 use Rattle.css_tokens.specs.declared.component.Component.{Component, out-Component}
 use Rattle.css_tokens.specs.declared.component.Component as component
 use Rattle.css_tokens.specs.declared.component.Block as block
-use Rattle.css_tokens.specs.declared.component.Component.TheOpen.{Component-F, Single, Block}
+use Rattle.css_tokens.specs.declared.component.Component.TheOpen.{Component-F}
 use Rattle.css_tokens.specs.declared.component.Component.TheFolds.{fold-Component, fold_out-Component}
 use Rattle.css_tokens.specs.declared.component.Component.TheVariants.{outs-Single}
 use Rattle.css_tokens.specs.Piece.{Piece, Word, word_of, spelled}
-use Rattle.css_tokens.specs.Trees.{opens, closes, pieces_of, pieces_all, words_all, pieces_of-Single, is_formed, all_formed, component_formed, block_formed}
+use Rattle.css_tokens.specs.Trees.{opens, closes, pieces_all, words_all, pieces_of-Single, is_formed, all_formed, component_formed, block_formed}
 use Rattle.css_rules.specs.declared.selector.Combinator.{Combinator}
 use Rattle.css_rules.specs.declared.selector.Combinator.TheVariants as combinators
 use Rattle.css_rules.specs.declared.selector.TypeName.{TypeName}
@@ -24,8 +22,8 @@ use Rattle.css_rules.specs.declared.selector.Simple.{Simple}
 use Rattle.css_rules.specs.declared.selector.Simple.TheVariants as simples
 use Rattle.css_rules.specs.BareSelectors.{BareCompound, BareSelector}
 use Rattle.css_rules.specs.Signs.{is_comma_kind}
-use Rattle.css_rules.specs.SelectorTexts.{type_text, simple_text, compound_text, ends_in_dashes, child_text, combinator_text, links_text, lead_text, selector_text, more_text, list_text}
-use Rattle.css_rules.specs.SelectorWords.{comma, type_words, simple_words, compound_words, child_words, combinator_words, links_words, lead_words, selector_words, more_words, list_words, single_of, list_again}
+use Rattle.css_rules.specs.SelectorTexts.{type_text, simple_text, compound_text, ends_in_dashes, combinator_text, links_text, lead_text, selector_text, more_text, list_text}
+use Rattle.css_rules.specs.SelectorWords.{comma, type_words, simple_words, compound_words, combinator_words, links_words, lead_words, selector_words, more_words, list_words, single_of, list_again}
 use Rattle.css_rules.proofs.SelectorPlaces.{is_plain}
 
 -- Words as components.

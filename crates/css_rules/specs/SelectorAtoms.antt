@@ -8,7 +8,7 @@ use Rattle.css_rules.specs.declared.selector.TypeName.TheVariants as types
 use Rattle.css_rules.specs.declared.selector.Simple.{Simple}
 use Rattle.css_rules.specs.declared.selector.Simple.TheVariants as simples
 use Rattle.css_rules.specs.BareSelectors.{BareCompound, BareSelector}
-use Rattle.css_rules.specs.Names.{is_ident, name_text}
+use Rattle.css_rules.specs.Names.{is_ident}
 use Rattle.css_rules.specs.SelectorTexts.{compound_text, ends_in_dashes}
 use Rattle.css_rules.specs.SelectorWords as words
 

@@ -4,7 +4,7 @@ use Rattle.css_tokens.specs.declared.kind.Kind.{Kind}
 use Rattle.css_tokens.specs.declared.kind.Kind.TheVariants as kinds
 use Rattle.css_tokens.specs.declared.component.Component.{Component}
 use Rattle.css_tokens.specs.declared.component.Component as component
-use Rattle.css_tokens.specs.Piece.{Piece, Word}
+use Rattle.css_tokens.specs.Piece.{Word}
 use Rattle.css_rules.specs.declared.selector.Combinator.{Combinator}
 use Rattle.css_rules.specs.declared.selector.Combinator.TheVariants.{Descendant, Child, Next, Later}
 use Rattle.css_rules.specs.declared.selector.TypeName.{TypeName}
