@@ -3,5 +3,10 @@ pub mod SoughtLemmas
 pub mod DeclarationLemmas
 pub mod RefusalLemmas
 pub mod ReaderLemmas
+pub mod SelectorAgain
+pub mod SelectorNeighbours
+pub mod SelectorPlaces
+pub mod SelectorReadable
 pub mod SelectorReading
+pub mod SelectorSpelling
 pub mod WritingLemmas

@@ -7,7 +7,6 @@ use Rattle.std.specs.List.{find, filter_map, cons_option}
 use Rattle.css_tokens.specs.declared.component.Component.{Component}
 use Rattle.css_rules.specs.declared.selector.Combinator.{Combinator}
 use Rattle.css_rules.specs.declared.selector.Combinator.TheVariants as combinators
-use Rattle.css_rules.specs.declared.selector.TypeName.{TypeName}
 use Rattle.css_rules.specs.declared.selector.TypeName.TheVariants as types
 use Rattle.css_rules.specs.declared.selector.Simple.{Simple}
 use Rattle.css_rules.specs.declared.selector.Simple.TheVariants as simples
@@ -23,7 +22,7 @@ use Rattle.css_rules.specs.declared.selector.read.Reading.{Reading}
 use Rattle.css_rules.specs.declared.selector.read.Reading.TheVariants.{Due, Inside, Dotted, Behind, Failed}
 use Rattle.css_rules.specs.declared.selector.read.Pending.{Pending}
 use Rattle.css_rules.specs.Signs.{sign_of, place_of, is_gap, is_comma}
-use Rattle.css_rules.specs.Selectors.{with_part, parts_of, compound_with, compound_of, stripped, white_before, sign_before, spaced, Runs, runs_of, with_link, links_of, selector_with, selector_at, first_place, selector_of, Member, empty_before, with_component, cut_at_commas, members_of, fault_of, list_of, list_faults}
+use Rattle.css_rules.specs.Selectors.{with_part, parts_of, compound_with, compound_of, stripped, white_before, sign_before, spaced, Runs, runs_of, with_link, links_of, selector_with, first_place, selector_of, Member, empty_before, with_component, cut_at_commas, fault_of, list_of, list_faults}
 use Rattle.css_rules.specs.SelectorSteps.{link, joined, chained, of_type, with_simple, step, concluded, fresh, pending_step, pending_run, pending_selector, pending_fault, list_from, faults_from}
 
 -- What a reading comes to, where these clean signs follow.

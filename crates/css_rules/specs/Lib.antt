@@ -10,6 +10,9 @@ pub mod BareSelectors
 pub mod Names
 pub mod SelectorSteps
 pub mod SelectorTexts
+pub mod ReadableSelectors
+pub mod SelectorAtoms
+pub mod SelectorWords
 pub mod Signs
 pub mod Writing
 pub mod Runs

@@ -13,7 +13,7 @@ use Rattle.css_rules.specs.declared.selector.Compound.{Compound}
 use Rattle.css_rules.specs.declared.selector.Link.{Link}
 use Rattle.css_rules.specs.declared.selector.Selector.{Selector}
 use Rattle.css_rules.specs.declared.selector.sign.Sign.{Sign}
-use Rattle.css_rules.specs.declared.selector.sign.Sign.TheVariants.{Comment, White, Child, Next, Later, Name, Star, Dot, Id, Parent, Other}
+use Rattle.css_rules.specs.declared.selector.sign.Sign.TheVariants.{Comment, White, Child, Next, Later, Name, Star, Dot, Id, Parent}
 use Rattle.css_rules.specs.Signs.{sign_of, place_of, is_comma, is_gap}
 
 -- Compounds. Their signs hold no comment, white space or combinator.

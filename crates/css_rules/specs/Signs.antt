@@ -59,7 +59,7 @@ is_gap_kind kinds.White = true
 is_gap_kind kinds.Comment = true
 is_gap_kind _ = false
 
-abbrev open_sign : Component-F Component block.Block → Sign
+abbrev pub open_sign : Component-F Component block.Block → Sign
 open_sign (Single token) = token_sign token
 open_sign (Block inner) = Other
 
@@ -67,7 +67,7 @@ open_sign (Block inner) = Other
 abbrev pub sign_of : Component → Sign
 sign_of c = open_sign (out-Component c)
 
-abbrev open_place : Component-F Component block.Block → ℕ
+abbrev pub open_place : Component-F Component block.Block → ℕ
 open_place (Single token) = token.at
 open_place (Block inner) = inner.opening.at
 
@@ -75,14 +75,14 @@ open_place (Block inner) = inner.opening.at
 abbrev pub place_of : Component → ℕ
 place_of c = open_place (out-Component c)
 
-abbrev open_comma : Component-F Component block.Block → Bool
+abbrev pub open_comma : Component-F Component block.Block → Bool
 open_comma (Single token) = is_comma_kind token.kind
 open_comma (Block inner) = false
 
 abbrev pub is_comma : Component → Bool
 is_comma c = open_comma (out-Component c)
 
-abbrev open_gap : Component-F Component block.Block → Bool
+abbrev pub open_gap : Component-F Component block.Block → Bool
 open_gap (Single token) = is_gap_kind token.kind
 open_gap (Block inner) = false
 

@@ -1,8 +1,12 @@
-pub mod read;
-pub mod sign;
-pub mod write;
+mod laws;
+mod read;
+mod sign;
+mod write;
 
 use css_tokens::{List, Text};
+pub use laws::{selector_words_are_neighbours, selectors_are_read_again};
+pub use read::{SelectorFault, read_list};
+pub use write::write_list;
 
 /// How the elements of two neighbouring compounds stand to each other (Selectors 4, section 14).
 #[derive(Clone, Copy, Debug, PartialEq, Eq)]
@@ -71,3 +75,6 @@ pub struct Selector<'a> {
     /// How many bytes of the source stand before its first token.
     pub at: u32,
 }
+
+#[cfg(test)]
+mod tests;

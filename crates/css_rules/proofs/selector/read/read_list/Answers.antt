@@ -1,4 +1,4 @@
-use Rattle.std.proofs.Common.{◌∙◌, sym, drop, arith, ◌+◌}
+use Rattle.std.proofs.Common.{◌∙◌, sym, drop, ◌+◌}
 use Rattle.css_rules.proofs.SelectorReading.{list-fresh, faults-fresh, at-item, comma-turn, more-turn}
 use Rattle.css_rules.proofs.selector.read.read_list.Goals as goal
 use Rattle.css_rules.proofs.selector.read.read_list.Goals.{then-is_comma+in_ok-conclude+in_ok-push, else-is_comma+in_ok-pending}

@@ -1,0 +1,28 @@
+ghost use Rattle.css_rules.specs.SelectorAtoms.{are_neighbours, atom_word, is_spelled_atom, list_atoms};
+ghost use Rattle.css_rules.specs.BareSelectors.{BareSelector, bare_list};
+ghost use Rattle.css_rules.specs.ReadableSelectors.{is_readable_list, is_spelled};
+ghost use Rattle.css_rules.specs.SelectorTexts.{list_text};
+ghost use Rattle.css_rules.specs.SelectorWords.{list_again};
+ghost use Rattle.css_rules.specs.Selectors.{list_faults, list_of};
+ghost use Rattle.css_tokens.specs.Piece.{spelled};
+ghost use Rattle.css_tokens.specs.Trees.{all_formed, words_all};
+ghost use Rattle.css_tokens.specs.declared.component.Component.{Component};
+ghost use Rattle.std.specs.List.{list_all};
+ghost use Rattle.std.specs.Prelude.{◌≡◌, ℕ, List, [], map, IsTrue};
+
+/// The components that a list's text is made of spell that text, are well formed, and are read as that list again, also
+/// where they stand at other places; and what a list without faults is read as can be written so.
+pub fn selectors_are_read_again()
+    ensures text { (bs : List BareSelector) → spelled (words_all (list_again bs)) ≡ list_text bs }
+    ensures formed { (bs : List BareSelector) → IsTrue (all_formed (list_again bs)) }
+    ensures sound { (bs : List BareSelector) (cs : List Component) (end : ℕ) → IsTrue (is_readable_list bs) → words_all cs ≡ words_all (list_again bs) → list_faults cs end ≡ [] }
+    ensures same { (bs : List BareSelector) (cs : List Component) → IsTrue (is_readable_list bs) → words_all cs ≡ words_all (list_again bs) → bare_list (list_of cs) ≡ bs }
+    ensures readable { (cs : List Component) (end : ℕ) → IsTrue (list_all is_spelled (words_all cs)) → list_faults cs end ≡ [] → IsTrue (is_readable_list (bare_list (list_of cs))) }
+{}
+
+/// Which words stand next to each other in a list's text: each may stand behind the one before it, and names spell Idents.
+pub fn selector_words_are_neighbours()
+    ensures words { (bs : List BareSelector) → map atom_word (list_atoms bs) ≡ words_all (list_again bs) }
+    ensures neighbours { (bs : List BareSelector) → IsTrue (is_readable_list bs) → IsTrue (are_neighbours (list_atoms bs)) }
+    ensures names { (bs : List BareSelector) → IsTrue (is_readable_list bs) → IsTrue (list_all is_spelled_atom (list_atoms bs)) }
+{}
