@@ -16,3 +16,6 @@ pub mod SelectorWords
 pub mod Signs
 pub mod Writing
 pub mod Runs
+pub mod SheetTexts
+pub mod SheetAgain
+pub mod Printable

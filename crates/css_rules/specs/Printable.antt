@@ -1,0 +1,51 @@
+-- Which runs of declarations print as a text that reads as them again.
+use Rattle.std.specs.Prelude.{ℕ, List, [], ◌∷◌, Bool, true, false, ◌≡◌, if◌then◌else◌}
+use Rattle.std.specs.List.{list_any, AllByRecursion}
+use Rattle.css_tokens.specs.Trees.{all_formed}
+use Rattle.css_tokens.specs.PlainNames.{is_plain_name}
+use Rattle.css_rules.specs.declared.refusal.Refusal.{Refusal}
+use Rattle.css_rules.specs.declared.refusal.Sought.TheVariants.{RevertLayer, RevertLayerOrUrl}
+use Rattle.css_rules.specs.declared.sheet.Declaration.{Declaration}
+use Rattle.css_rules.specs.declared.selector.Simple.{Simple}
+use Rattle.css_rules.specs.declared.selector.Simple.TheVariants.{Class, Id, Parent}
+use Rattle.css_rules.specs.BareSelectors.{BareCompound, BareSelector}
+use Rattle.css_rules.specs.ReadableSelectors.{is_readable_list}
+use Rattle.css_rules.specs.Components.{is_bang, is_semicolon, is_custom}
+use Rattle.css_rules.specs.Cuts.{trimmed}
+use Rattle.css_rules.specs.Declarations.{property_name, may_be_value}
+use Rattle.css_rules.specs.Refusals.{is_unbuilt_property, sought_in}
+use Rattle.css_rules.specs.Runs.{Run}
+
+-- is it the nesting selector?
+abbrev pub is_parent : Simple → Bool
+is_parent (Class name) = false
+is_parent (Id name) = false
+is_parent Parent = true
+
+abbrev pub has_parent : BareCompound → Bool
+has_parent compound = list_any is_parent compound.simples
+
+-- is the nesting selector in it?
+abbrev pub is_nesting : BareSelector → Bool
+is_nesting s = if has_parent s.first then true else list_any (λ link. has_parent link.1) s.rest
+
+-- a declaration that is written as it was read
+pub record IsPrintableDeclaration (d : Declaration) : Type 0 where
+  pub name : is_plain_name d.name ≡ true
+  pub property : property_name d.name ≡ d.name
+  pub built : is_unbuilt_property d.name ≡ false
+  pub fits : may_be_value (is_custom d.name) d.value ≡ true
+  pub whole : trimmed d.value ≡ d.value
+  pub bangless : list_any is_bang d.value ≡ false
+  pub undivided : list_any is_semicolon d.value ≡ false
+  pub formed : all_formed d.value ≡ true
+  pub unsought : sought_in (if is_custom d.name then RevertLayer else RevertLayerOrUrl) d.value ≡ []
+
+-- a run of one rule that is not nested, with a declaration at least
+pub record IsPrintable (run : Run) : Type 0 where
+  pub selectors : (list : List BareSelector) × (run.chain ≡ list ∷ []) × (is_readable_list list ≡ true) × (list_any is_nesting list ≡ false)
+  pub some : (first : Declaration) × (more : List Declaration) × (run.declarations ≡ first ∷ more)
+  pub each : AllByRecursion IsPrintableDeclaration run.declarations
+
+abbrev pub ArePrintable : List Run → Type 0
+ArePrintable runs = AllByRecursion IsPrintable runs

@@ -1,0 +1,49 @@
+-- The components that the printed text of a sheet is made of.
+use Rattle.std.specs.Prelude.{ℕ, List, [], ◌∷◌, ◌++◌, map, flat_map, Bool, codes, if◌then◌else◌}
+use Rattle.css_tokens.specs.declared.kind.Kind.TheVariants as kinds
+use Rattle.css_tokens.specs.declared.component.Component.{Component}
+use Rattle.css_tokens.specs.declared.component.Component as component
+use Rattle.css_tokens.specs.NameText.{name_text}
+use Rattle.css_tokens.specs.ValueAgain.{value_again}
+use Rattle.css_rules.specs.declared.sheet.Declaration.{Declaration}
+use Rattle.css_rules.specs.Runs.{Run}
+use Rattle.css_rules.specs.SelectorWords.{word, single_of, list_again}
+use Rattle.css_rules.specs.SheetTexts.{innermost}
+
+abbrev pub colon : Component
+colon = single_of (word kinds.Colon (codes ":"))
+
+abbrev pub semicolon : Component
+semicolon = single_of (word kinds.Semicolon (codes ";"))
+
+abbrev pub space : Component
+space = single_of (word kinds.White (codes " "))
+
+abbrev pub line_feed : Component
+line_feed = single_of (word kinds.White (10 ∷ []))
+
+abbrev pub value_or_space : List Component → List Component
+value_or_space [] = space ∷ []
+value_or_space (c ∷ cs) = c ∷ cs
+
+abbrev pub importance_again : Bool → List Component
+importance_again important = if important then single_of (word kinds.Delim (codes "!")) ∷ single_of (word kinds.Ident (codes "important")) ∷ [] else []
+
+abbrev pub declaration_again : Declaration → List Component
+declaration_again d = single_of (word kinds.Ident (name_text d.name)) ∷ colon ∷ value_or_space (value_again d.value) ++ importance_again d.important
+
+abbrev pub more_again : List Declaration → List Component
+more_again ds = flat_map (λ d. semicolon ∷ declaration_again d) ds
+
+abbrev pub declarations_again : List Declaration → List Component
+declarations_again [] = []
+declarations_again (d ∷ ds) = declaration_again d ++ more_again ds
+
+abbrev pub block_again : List Declaration → Component
+block_again ds = component.Block (record { opening = record { kind = kinds.Open; text = codes "{"; at = 0 }; items = declarations_again ds; close = 0 })
+
+abbrev pub run_again : Run → List Component
+run_again run = list_again (innermost run.chain) ++ block_again run.declarations ∷ line_feed ∷ []
+
+abbrev pub sheet_again : List Run → List Component
+sheet_again runs = flat_map run_again runs
