@@ -10,3 +10,5 @@ pub mod SelectorReadable
 pub mod SelectorReading
 pub mod SelectorSpelling
 pub mod WritingLemmas
+pub mod Heads
+pub mod CutAgain

@@ -1,6 +1,7 @@
 -- Which runs of declarations print as a text that reads as them again.
-use Rattle.std.specs.Prelude.{ℕ, List, [], ◌∷◌, Bool, true, false, ◌≡◌, if◌then◌else◌}
+use Rattle.std.specs.Prelude.{ℕ, List, [], ◌∷◌, Bool, true, false, not, ◌≡◌, if◌then◌else◌}
 use Rattle.std.specs.List.{list_any, AllByRecursion}
+use Rattle.css_tokens.specs.declared.component.Component.{Component}
 use Rattle.css_tokens.specs.Trees.{all_formed}
 use Rattle.css_tokens.specs.PlainNames.{is_plain_name}
 use Rattle.css_rules.specs.declared.refusal.Refusal.{Refusal}
@@ -10,8 +11,7 @@ use Rattle.css_rules.specs.declared.selector.Simple.{Simple}
 use Rattle.css_rules.specs.declared.selector.Simple.TheVariants.{Class, Id, Parent}
 use Rattle.css_rules.specs.BareSelectors.{BareCompound, BareSelector}
 use Rattle.css_rules.specs.ReadableSelectors.{is_readable_list}
-use Rattle.css_rules.specs.Components.{is_bang, is_semicolon, is_custom}
-use Rattle.css_rules.specs.Cuts.{trimmed}
+use Rattle.css_rules.specs.Components.{is_bang, is_semicolon, is_custom, is_gap}
 use Rattle.css_rules.specs.Declarations.{property_name, may_be_value}
 use Rattle.css_rules.specs.Refusals.{is_unbuilt_property, sought_in}
 use Rattle.css_rules.specs.Runs.{Run}
@@ -29,13 +29,18 @@ has_parent compound = list_any is_parent compound.simples
 abbrev pub is_nesting : BareSelector → Bool
 is_nesting s = if has_parent s.first then true else list_any (λ link. has_parent link.1) s.rest
 
+-- no white space and no comment stands in front
+abbrev pub begins_solid : List Component → Bool
+begins_solid [] = true
+begins_solid (c ∷ cs) = not (is_gap c)
+
 -- a declaration that is written as it was read
 pub record IsPrintableDeclaration (d : Declaration) : Type 0 where
   pub name : is_plain_name d.name ≡ true
   pub property : property_name d.name ≡ d.name
   pub built : is_unbuilt_property d.name ≡ false
   pub fits : may_be_value (is_custom d.name) d.value ≡ true
-  pub whole : trimmed d.value ≡ d.value
+  pub begun : begins_solid d.value ≡ true
   pub bangless : list_any is_bang d.value ≡ false
   pub undivided : list_any is_semicolon d.value ≡ false
   pub formed : all_formed d.value ≡ true

@@ -1,0 +1,38 @@
+-- Lists that are joined by marks are cut at them again.
+use Rattle.std.proofs.Common.{◌≡◌, ℕ, List, [], ◌∷◌, ◌++◌, Bool, true, false, ◌&&◌, ◌||◌, not, Option, Some, None, refl, sym, ◌∙◌, ap, cond, flat_map, map}
+use Rattle.std.proofs.lemmas.List.{append_assoc}
+use Rattle.std.specs.List.{list_any, list_all}
+use Rattle.css_tokens.specs.declared.component.Component.{Component}
+use Rattle.css_rules.specs.Components.{is_gap}
+use Rattle.css_rules.specs.Cuts.{Cut, cuts, with_front, trimmed, trimmed_start, trimmed_end}
+use Rattle.css_rules.proofs.CutLemmas.{cuts-unmarked, cuts-marked, trimmed_start-other, trimmed_end-other}
+use Rattle.css_rules.proofs.DeclarationLemmas.{or_false_left, or_false_right}
+
+-- what holds no mark is the front of the first cut
+pub cuts-front : (test : Component → Bool) (xs : List Component) (m : Component) (ys : List Component) → list_any test xs ≡ false → test m ≡ true
+    → cuts test (xs ++ m ∷ ys) ≡ record { front = xs; mark = Some m } ∷ cuts test ys
+cuts-front test [] m ys none marked = cuts-marked test m ys marked
+cuts-front test (x ∷ xs) m ys none marked =
+    cuts-unmarked test x (xs ++ m ∷ ys) (or_false_left (test x) (list_any test xs) none)
+    ∙ ap (with_front x) (cuts-front test xs m ys (or_false_right (test x) (list_any test xs) none) marked)
+
+pub cuts-whole : (test : Component → Bool) (xs : List Component) → list_any test xs ≡ false → cuts test xs ≡ record { front = xs; mark = None } ∷ []
+cuts-whole test [] none = refl
+cuts-whole test (x ∷ xs) none =
+    cuts-unmarked test x xs (or_false_left (test x) (list_any test xs) none)
+    ∙ ap (with_front x) (cuts-whole test xs (or_false_right (test x) (list_any test xs) none))
+
+pub any-append : (test : Component → Bool) (xs ys : List Component) → list_any test xs ≡ false → list_any test ys ≡ false → list_any test (xs ++ ys) ≡ false
+any-append test [] ys a b = b
+any-append test (x ∷ xs) ys a b =
+    ap (λ here. here || list_any test (xs ++ ys)) (or_false_left (test x) (list_any test xs) a)
+    ∙ any-append test xs ys (or_false_right (test x) (list_any test xs) a) b
+
+-- a list that is not empty has a last component
+pub last_of : (c : Component) (cs : List Component) → (front : List Component) × ((last : Component) × (c ∷ cs ≡ front ++ last ∷ []))
+last_of c [] = ([], (c, refl))
+last_of c (d ∷ cs) = let more = last_of d cs in (c ∷ more.0, (more.1.0, ap (λ rest. c ∷ rest) more.1.1))
+
+-- a component that is no gap stays in front
+pub trimmed_end-solid : (c : Component) (cs : List Component) → is_gap c ≡ false → trimmed_end (c ∷ cs) ≡ c ∷ trimmed_end cs
+trimmed_end-solid c cs solid = ap (λ b. cond (b && list_all is_gap cs) [] (c ∷ trimmed_end cs)) solid

@@ -1,0 +1,66 @@
+-- What the tests say of a token alone and of a block.
+use Rattle.std.proofs.Common.{◌≡◌, ℕ, List, [], ◌∷◌, ◌++◌, map, Bool, true, false, ◌&&◌, ◌||◌, not, refl, sym, ◌∙◌, ap, codes, cond}
+use Rattle.std.specs.List.{list_any, list_all}
+use Rattle.css_tokens.specs.declared.component.Component.{Component, out-Component}
+use Rattle.css_tokens.specs.declared.component.Component as component
+use Rattle.css_tokens.specs.declared.component.Block as block
+use Rattle.css_tokens.specs.declared.component.Component.TheOpen.{Single, Block}
+use Rattle.css_tokens.specs.declared.component.Component.TheVariants.{outs-Single, outs-Block}
+use Rattle.css_tokens.specs.Piece.{Piece, Word}
+use Rattle.css_tokens.specs.Trees.{is_text}
+use Rattle.css_rules.specs.Components.{Layer, layer_head, layer_is_single, layer_items, head, inside, is_single, is_gap, is_ident, is_at_keyword, is_colon, is_semicolon, is_bang, is_braces, is_gap_kind, is_ident_kind, is_at_kind, is_colon_kind, is_semicolon_kind, is_delim_kind}
+use Rattle.css_rules.specs.SelectorWords.{single_of}
+
+-- the piece of a word at the place 0
+abbrev pub piece_of : Word → Piece
+piece_of w = record { kind = w.kind; text = w.text; at = 0 }
+
+pub head-Single : (p : Piece) → head (component.Single p) ≡ p
+head-Single p = ap layer_head (outs-Single p)
+
+pub head-Block : (b : block.Block) → head (component.Block b) ≡ b.opening
+head-Block b = ap layer_head (outs-Block b)
+
+pub inside-Block : (b : block.Block) → inside (component.Block b) ≡ b.items
+inside-Block b = ap layer_items (outs-Block b)
+
+pub gap-Single : (p : Piece) → is_gap (component.Single p) ≡ is_gap_kind p.kind
+gap-Single p = ap (λ v. layer_is_single v && is_gap_kind (layer_head v).kind) (outs-Single p)
+
+pub gap-Block : (b : block.Block) → is_gap (component.Block b) ≡ false
+gap-Block b = ap (λ v. layer_is_single v && is_gap_kind (layer_head v).kind) (outs-Block b)
+
+pub ident-Single : (p : Piece) → is_ident (component.Single p) ≡ is_ident_kind p.kind
+ident-Single p = ap (λ v. layer_is_single v && is_ident_kind (layer_head v).kind) (outs-Single p)
+
+pub at-Single : (p : Piece) → is_at_keyword (component.Single p) ≡ is_at_kind p.kind
+at-Single p = ap (λ v. layer_is_single v && is_at_kind (layer_head v).kind) (outs-Single p)
+
+pub at-Block : (b : block.Block) → is_at_keyword (component.Block b) ≡ false
+at-Block b = ap (λ v. layer_is_single v && is_at_kind (layer_head v).kind) (outs-Block b)
+
+pub colon-Single : (p : Piece) → is_colon (component.Single p) ≡ is_colon_kind p.kind
+colon-Single p = ap (λ v. layer_is_single v && is_colon_kind (layer_head v).kind) (outs-Single p)
+
+pub semicolon-Single : (p : Piece) → is_semicolon (component.Single p) ≡ is_semicolon_kind p.kind
+semicolon-Single p = ap (λ v. layer_is_single v && is_semicolon_kind (layer_head v).kind) (outs-Single p)
+
+pub semicolon-Block : (b : block.Block) → is_semicolon (component.Block b) ≡ false
+semicolon-Block b = ap (λ v. layer_is_single v && is_semicolon_kind (layer_head v).kind) (outs-Block b)
+
+pub bang-Single : (p : Piece) → is_bang (component.Single p) ≡ (is_delim_kind p.kind && is_text p.text (codes "!"))
+bang-Single p = ap (λ v. layer_is_single v && (is_delim_kind (layer_head v).kind && is_text (layer_head v).text (codes "!"))) (outs-Single p)
+
+pub bang-Block : (b : block.Block) → is_bang (component.Block b) ≡ false
+bang-Block b = ap (λ v. layer_is_single v && (is_delim_kind (layer_head v).kind && is_text (layer_head v).text (codes "!"))) (outs-Block b)
+
+pub braces-Single : (p : Piece) → is_braces (component.Single p) ≡ false
+braces-Single p = ap (λ v. not (layer_is_single v) && is_text (layer_head v).text (codes "{")) (outs-Single p)
+
+pub braces-Block : (b : block.Block) → is_braces (component.Block b) ≡ is_text b.opening.text (codes "{")
+braces-Block b = ap (λ v. not (layer_is_single v) && is_text (layer_head v).text (codes "{")) (outs-Block b)
+
+-- no token alone is a `{}` block
+pub braces-singles : (ws : List Word) → list_any is_braces (map single_of ws) ≡ false
+braces-singles [] = refl
+braces-singles (w ∷ ws) = ap (λ b. b || list_any is_braces (map single_of ws)) (braces-Single (piece_of w)) ∙ braces-singles ws
