@@ -36,3 +36,12 @@ last_of c (d ∷ cs) = let more = last_of d cs in (c ∷ more.0, (more.1.0, ap (
 -- a component that is no gap stays in front
 pub trimmed_end-solid : (c : Component) (cs : List Component) → is_gap c ≡ false → trimmed_end (c ∷ cs) ≡ c ∷ trimmed_end cs
 trimmed_end-solid c cs solid = ap (λ b. cond (b && list_all is_gap cs) [] (c ∷ trimmed_end cs)) solid
+
+-- trimming takes nothing in
+pub any-trimmed_end : (test : Component → Bool) (cs : List Component) → list_any test cs ≡ false → list_any test (trimmed_end cs) ≡ false
+any-trimmed_end test [] none = refl
+any-trimmed_end test (c ∷ cs) none = at (list_all is_gap (c ∷ cs)) (any-trimmed_end test cs (or_false_right (test c) (list_any test cs) none))
+  where
+    at : (b : Bool) → list_any test (trimmed_end cs) ≡ false → list_any test (cond b [] (c ∷ trimmed_end cs)) ≡ false
+    at true rest = refl
+    at false rest = ap (λ here. here || list_any test (trimmed_end cs)) (or_false_left (test c) (list_any test cs) none) ∙ rest

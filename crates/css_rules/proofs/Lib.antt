@@ -12,3 +12,6 @@ pub mod SelectorSpelling
 pub mod WritingLemmas
 pub mod Heads
 pub mod CutAgain
+pub mod ValueFacts
+pub mod SoughtAgain
+pub mod DeclarationAgain

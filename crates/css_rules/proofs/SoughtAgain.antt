@@ -1,0 +1,113 @@
+-- What is not sought in a value is not sought in its printed form.
+use Rattle.std.proofs.Common.{◌≡◌, ℕ, List, [], ◌∷◌, ◌++◌, map, Bool, true, false, ◌&&◌, ◌||◌, not, Option, Some, None, refl, sym, ◌∙◌, ap, cond, IsTrue, inl, inr, ◌⊎◌, find, codes}
+use Rattle.std.specs.List.{list_any, list_all}
+use Rattle.std.proofs.lemmas.Bool.{cases_Bool}
+use Rattle.css_tokens.specs.declared.kind.Kind.{Kind}
+use Rattle.css_tokens.specs.declared.kind.Kind.TheVariants as kinds
+use Rattle.css_tokens.specs.declared.component.Component.{Component}
+use Rattle.css_tokens.specs.Piece.{Piece, Word, word_of}
+use Rattle.css_tokens.specs.Trees.{pieces_all, words_all, all_formed}
+use Rattle.css_tokens.specs.Values.{is_gap, is_white, short_text, short_word, before_run, single_gaps, after_gap, before_gap, word_kind, printed_words, value_words}
+use Rattle.css_tokens.specs.ValueAgain.{value_again}
+use Rattle.css_rules.specs.declared.refusal.Refusal.{Refusal}
+use Rattle.css_rules.specs.declared.refusal.Refusal.TheVariants.{Syntax, Unbuilt}
+use Rattle.css_rules.specs.declared.refusal.Sought.{Sought}
+use Rattle.css_rules.specs.declared.refusal.Sought.TheVariants.{ColonOrBracket, Ampersand, RevertLayer, RevertLayerOrUrl}
+use Rattle.css_rules.specs.Refusals.{is_sought, is_colon_or_bracket, is_ampersand, is_revert_layer, is_url, unbuilt_at, sought_in}
+use Rattle.css_rules.proofs.DeclarationLemmas.{or_false_left, or_false_right}
+use Rattle.css_rules.proofs.ValueFacts.{ValueLaws}
+
+-- is a word sought?
+abbrev pub word_sought : Sought → Word → Bool
+word_sought sought w = is_sought sought (record { kind = w.kind; text = w.text; at = 0 })
+
+sought-place : (sought : Sought) (p : Piece) → word_sought sought (word_of p) ≡ is_sought sought p
+sought-place ColonOrBracket p = refl
+sought-place Ampersand p = refl
+sought-place RevertLayer p = refl
+sought-place RevertLayerOrUrl p = refl
+
+-- none is found where no word is sought
+pub unsought-words : (sought : Sought) (cs : List Component) → list_any (word_sought sought) (words_all cs) ≡ false → sought_in sought cs ≡ []
+unsought-words sought cs none = ap unbuilt_at (nothing (pieces_all cs) none)
+  where
+    nothing : (ps : List Piece) → list_any (word_sought sought) (map word_of ps) ≡ false → find (is_sought sought) ps ≡ None
+    nothing [] e = refl
+    nothing (p ∷ ps) e =
+        ap (λ b. cond b (Some p) (find (is_sought sought) ps)) (sym (sought-place sought p) ∙ or_false_left (word_sought sought (word_of p)) (list_any (word_sought sought) (map word_of ps)) e)
+        ∙ nothing ps (or_false_right (word_sought sought (word_of p)) (list_any (word_sought sought) (map word_of ps)) e)
+
+-- and no word is sought where none is found
+pub words-unsought : (sought : Sought) (cs : List Component) → sought_in sought cs ≡ [] → list_any (word_sought sought) (words_all cs) ≡ false
+words-unsought sought cs none = nothing (pieces_all cs) none
+  where
+    nothing : (ps : List Piece) → unbuilt_at (find (is_sought sought) ps) ≡ [] → list_any (word_sought sought) (map word_of ps) ≡ false
+    nothing [] e = refl
+    nothing (p ∷ ps) e = elim (cases_Bool (is_sought sought p)) [
+        inl found ↦ absurd (cc (sym (ap (λ b. unbuilt_at (cond b (Some p) (find (is_sought sought) ps))) found) ∙ e))
+      | inr other ↦
+          ap (λ b. b || list_any (word_sought sought) (map word_of ps)) (sought-place sought p ∙ other)
+          ∙ nothing ps (sym (ap (λ b. unbuilt_at (cond b (Some p) (find (is_sought sought) ps))) other) ∙ e)
+      ]
+
+short-sought : (sought : Sought) (k : Kind) (text : List ℕ) → word_sought sought (record { kind = k; text = short_text k text }) ≡ word_sought sought (record { kind = k; text = text })
+short-sought ColonOrBracket kinds.Open text = refl
+short-sought ColonOrBracket _ text = refl
+short-sought Ampersand kinds.Delim text = refl
+short-sought Ampersand _ text = refl
+short-sought RevertLayer kinds.Ident text = refl
+short-sought RevertLayer _ text = refl
+short-sought RevertLayerOrUrl kinds.Ident text = refl
+short-sought RevertLayerOrUrl kinds.Function text = refl
+short-sought RevertLayerOrUrl kinds.Url text = refl
+short-sought RevertLayerOrUrl _ text = refl
+
+module _ (test : Word → Bool) where
+  any-before_run : (w : Word) (ws : List Word) → test w ≡ false → list_any test ws ≡ false → list_any test (before_run word_kind w ws) ≡ false
+  any-before_run w [] e f = ap (λ b. b || false) e
+  any-before_run w (v ∷ ws) e f = at (is_gap w.kind && is_gap v.kind) (is_white w.kind)
+    where
+      at : (gaps white : Bool) → list_any test (cond gaps ((cond white w v) ∷ ws) (w ∷ v ∷ ws)) ≡ false
+      at true true = ap (λ b. b || list_any test ws) e ∙ or_false_right (test v) (list_any test ws) f
+      at true false = f
+      at false white = ap (λ b. b || (test v || list_any test ws)) e ∙ f
+
+  any-single_gaps : (ws : List Word) → list_any test ws ≡ false → list_any test (single_gaps word_kind ws) ≡ false
+  any-single_gaps [] e = refl
+  any-single_gaps (w ∷ ws) e = any-before_run w (single_gaps word_kind ws) (or_false_left (test w) (list_any test ws) e) (any-single_gaps ws (or_false_right (test w) (list_any test ws) e))
+
+  any-after_gap : (ws : List Word) → list_any test ws ≡ false → list_any test (after_gap word_kind ws) ≡ false
+  any-after_gap [] e = refl
+  any-after_gap (w ∷ ws) e = at (is_gap w.kind)
+    where
+      at : (gap : Bool) → list_any test (cond gap ws (w ∷ ws)) ≡ false
+      at true = or_false_right (test w) (list_any test ws) e
+      at false = e
+
+  any-before_gap : (ws : List Word) → list_any test ws ≡ false → list_any test (before_gap word_kind ws) ≡ false
+  any-before_gap [] e = refl
+  any-before_gap (w ∷ []) e = at (is_gap w.kind)
+    where
+      at : (gap : Bool) → list_any test (cond gap [] (w ∷ [])) ≡ false
+      at true = refl
+      at false = e
+  any-before_gap (w ∷ v ∷ ws) e =
+      ap (λ b. b || list_any test (before_gap word_kind (v ∷ ws))) (or_false_left (test w) (list_any test (v ∷ ws)) e)
+      ∙ any-before_gap (v ∷ ws) (or_false_right (test w) (list_any test (v ∷ ws)) e)
+
+any-short : (sought : Sought) (ws : List Word) → list_any (word_sought sought) (map short_word ws) ≡ list_any (word_sought sought) ws
+any-short sought [] = refl
+any-short sought (w ∷ ws) = ap (λ b. b || list_any (word_sought sought) (map short_word ws)) (short-sought sought w.kind w.text) ∙ ap (λ b. word_sought sought w || b) (any-short sought ws)
+
+-- the printed words hold no sought word where the words hold none
+any-printed : (sought : Sought) (ws : List Word) → list_any (word_sought sought) ws ≡ false → list_any (word_sought sought) (printed_words ws) ≡ false
+any-printed sought ws none =
+    let short = map short_word ws in
+    let spaced = single_gaps word_kind short in
+    any-before_gap (word_sought sought) (after_gap word_kind spaced)
+    (any-after_gap (word_sought sought) spaced (any-single_gaps (word_sought sought) short (any-short sought ws ∙ none)))
+
+pub unsought-again : ValueLaws → (sought : Sought) (v : List Component) → all_formed v ≡ true → sought_in sought v ≡ [] → sought_in sought (value_again v) ≡ []
+unsought-again laws sought v formed none =
+    unsought-words sought (value_again v)
+    (ap (list_any (word_sought sought)) (laws.words v formed) ∙ any-printed sought (words_all v) (words-unsought sought v none))
