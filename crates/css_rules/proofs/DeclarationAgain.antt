@@ -14,6 +14,9 @@ use Rattle.css_tokens.specs.Trees.{all_formed}
 use Rattle.css_tokens.specs.Values.{value_text}
 use Rattle.css_tokens.specs.ValueAgain.{value_again, is_solid, again}
 use Rattle.css_rules.specs.declared.refusal.Refusal.{Refusal}
+use Rattle.css_rules.specs.declared.refusal.Refusal.TheVariants.{Syntax, Unbuilt}
+use Rattle.css_rules.specs.declared.refusal.Sought.TheVariants.{RevertLayer, RevertLayerOrUrl}
+use Rattle.std.proofs.Math.Bool.{and-true, and-false}
 use Rattle.css_rules.specs.declared.sheet.Declaration.{Declaration}
 use Rattle.css_rules.specs.Components.{head, is_ident, is_colon, is_bang, is_braces, is_semicolon, is_gap, is_custom, is_at_keyword, is_keyword, layer_is_single, layer_head, is_ident_kind, is_gap_kind}
 use Rattle.css_rules.specs.Cuts.{Cut, cuts, trimmed, trimmed_start, trimmed_end}
@@ -124,3 +127,110 @@ trimmed-declaration d =
     ap trimmed_end (trimmed_start-other (name_of d.name) (colon ∷ rest) name_solid)
     ∙ trimmed_end-solid (name_of d.name) (colon ∷ rest) name_solid
     ∙ ap (λ cs. name_of d.name ∷ cs) (trimmed_end-solid colon rest (other-Single (word kinds.Colon (codes ":")) refl))
+
+abbrev after_name : Declaration → List Component → Option Declaration
+after_name d cs = declared_after (head (name_of d.name)) (after_colon cs)
+
+-- the declaration behind its name
+declared-again : ValueLaws → (d : Declaration) → IsPrintableDeclaration d → name_text d.name ≡ d.name → declared_after (head (name_of d.name)) (Some (tail_of d)) ≡ Some (read_again d)
+unfolding tail_of
+declared-again laws d printable plain =
+    let value = value_again d.value in
+    let result : List ℕ → Option Declaration = λ n. cond (may_be_value (is_custom n) value) (Some (record { name = property_name n; value = value; important = d.important; at = 0 })) None in
+    let made : Bool → List ℕ → Option Declaration = λ b n. cond b (Some (record { name = n; value = value; important = d.important; at = 0 })) None in
+    ap (λ p. declared p (value_of (cuts is_bang (trimmed_end (value_or_space value ++ importance_again d.important))))) (head-Single (piece_of (word kinds.Ident (name_text d.name))))
+    ∙ ap (declared (piece_of (word kinds.Ident (name_text d.name)))) (value-again laws d.value d.important printable.formed printable.bangless)
+    ∙ ap result plain
+    ∙ ap (λ b. made b (property_name d.name)) (fits-again laws (is_custom d.name) d.value printable.formed printable.begun printable.fits)
+    ∙ ap (made true) printable.property
+
+-- what follows the name is a colon
+colon-follows : (d : Declaration) → after_colon (trimmed_start (colon ∷ tail_of d)) ≡ Some (tail_of d)
+colon-follows d =
+    ap after_colon (trimmed_start-other colon (tail_of d) (other-Single (word kinds.Colon (codes ":")) refl))
+    ∙ ap (λ b. cond b (Some (tail_of d)) None) (colon-Single (piece_of (word kinds.Colon (codes ":"))))
+
+-- a printed declaration is read as that declaration
+pub declaration-again : ValueLaws → (d : Declaration) → IsPrintableDeclaration d → name_text d.name ≡ d.name → declaration_of (trimmed (declaration_again d)) ≡ Some (read_again d)
+declaration-again laws d printable plain =
+    ap declaration_of (trimmed-declaration d)
+    ∙ ap (λ b. cond b (declared_after (head (name_of d.name)) (after_colon (trimmed_start (colon ∷ tail_of d)))) None) (ident-Single (piece_of (word kinds.Ident (name_text d.name))))
+    ∙ ap (declared_after (head (name_of d.name))) (colon-follows d)
+    ∙ declared-again laws d printable plain
+
+-- which says what it was printed from
+pub bare-again : ValueLaws → (d : Declaration) → IsPrintableDeclaration d → bare_declaration (read_again d) ≡ bare_declaration d
+bare-again laws d printable = ap (λ text. record { name = d.name; value = text; important = d.important }) (laws.text d.value printable.formed)
+
+no_braces : ValueLaws → (d : Declaration) → IsPrintableDeclaration d → is_custom d.name ≡ false → list_any is_braces (name_of d.name ∷ colon ∷ tail_of d) ≡ false
+unfolding tail_of
+no_braces laws d printable plain_property =
+    let none = value_braces d.value (sym (ap (λ b. may_be_value b d.value) plain_property) ∙ printable.fits) in
+    let whole = value_or_space (value_again d.value) ++ importance_again d.important in
+    ap (λ b. b || (is_braces colon || list_any is_braces (trimmed_end whole))) (braces-Single (piece_of (word kinds.Ident (name_text d.name))))
+    ∙ ap (λ b. b || list_any is_braces (trimmed_end whole)) (braces-Single (piece_of (word kinds.Colon (codes ":"))))
+    ∙ any-trimmed_end is_braces whole (any-append is_braces (value_or_space (value_again d.value)) (importance_again d.important) (printed (value_again d.value) refl none) (mark d.important))
+  where
+    value_braces : (v : List Component) → may_be_value false v ≡ true → list_any is_braces v ≡ false
+    value_braces [] e = refl
+    value_braces (c ∷ cs) e = negated (list_any is_braces (c ∷ cs)) e
+      where
+        negated : (b : Bool) → not b ≡ true → b ≡ false
+        negated true e = sym e
+        negated false e = refl
+    printed : (va : List Component) → value_again d.value ≡ va → list_any is_braces d.value ≡ false → list_any is_braces (value_or_space va) ≡ false
+    printed [] e none = ap (λ b. b || false) (braces-Single (piece_of (word kinds.White (codes " "))))
+    printed (c ∷ cs) e none = ap (list_any is_braces) (sym e) ∙ any-value is_braces braces_layer laws d.value printable.formed ∙ none
+    mark : (b : Bool) → list_any is_braces (importance_again b) ≡ false
+    mark true =
+        ap (λ b. b || (is_braces important || false)) (braces-Single (piece_of (word kinds.Delim (codes "!"))))
+        ∙ ap (λ b. b || false) (braces-Single (piece_of (word kinds.Ident (codes "important"))))
+    mark false = refl
+
+-- it begins no rule
+plain_item : ValueLaws → (d : Declaration) → IsPrintableDeclaration d → name_text d.name ≡ d.name → begins_rule (name_of d.name ∷ colon ∷ tail_of d) ≡ false
+plain_item laws d printable plain =
+    let name = piece_of (word kinds.Ident (name_text d.name)) in
+    let all = name_of d.name ∷ colon ∷ tail_of d in
+    ap (λ b. b || (not (begins_custom all) && list_any is_braces all)) (at-Single name)
+    ∙ ap (λ b. not b && list_any is_braces all) (custom (is_custom d.name) refl)
+    ∙ by_custom (is_custom d.name) refl
+  where
+    custom : (b : Bool) → is_custom d.name ≡ b → begins_custom (name_of d.name ∷ colon ∷ tail_of d) ≡ is_custom d.name
+    custom b e =
+        ap (λ i. i && (is_custom (head (name_of d.name)).text && is_some (after_colon (trimmed_start (colon ∷ tail_of d))))) (ident-Single (piece_of (word kinds.Ident (name_text d.name))))
+        ∙ ap (λ o. is_custom (head (name_of d.name)).text && is_some o) (colon-follows d)
+        ∙ ap (λ (p : Piece). is_custom p.text && true) (head-Single (piece_of (word kinds.Ident (name_text d.name))))
+        ∙ ap (λ n. is_custom n && true) plain
+        ∙ and-true (is_custom d.name)
+    by_custom : (b : Bool) → is_custom d.name ≡ b → (not (is_custom d.name) && list_any is_braces (name_of d.name ∷ colon ∷ tail_of d)) ≡ false
+    by_custom true e = ap (λ b. not b && list_any is_braces (name_of d.name ∷ colon ∷ tail_of d)) e
+    by_custom false e = ap (λ b. not (is_custom d.name) && b) (no_braces laws d printable e) ∙ and-false (not (is_custom d.name))
+
+-- nothing in a printed declaration is refused
+pub item-again : ValueLaws → (d : Declaration) → IsPrintableDeclaration d → name_text d.name ≡ d.name → item_refusals (trimmed (declaration_again d)) ≡ []
+item-again laws d printable plain =
+    let all = name_of d.name ∷ colon ∷ tail_of d in
+    let at = (head (name_of d.name)).at in
+    ap item_refusals (trimmed-declaration d)
+    ∙ ap (λ b. cond b (Unbuilt at ∷ []) (declaration_refusals at (declaration_of all))) (plain_item laws d printable plain)
+    ∙ ap (declaration_refusals at) (sym (ap declaration_of (trimmed-declaration d)) ∙ declaration-again laws d printable plain)
+    ∙ ap (λ b. (cond b (Unbuilt at ∷ []) []) ++ sought_in (cond (is_custom d.name) RevertLayer RevertLayerOrUrl) (value_again d.value)) printable.built
+    ∙ unsought-again laws (cond (is_custom d.name) RevertLayer RevertLayerOrUrl) d.value printable.formed printable.unsought
+
+-- no semicolon stands in it
+pub undivided-again : ValueLaws → (d : Declaration) → IsPrintableDeclaration d → list_any is_semicolon (declaration_again d) ≡ false
+undivided-again laws d printable =
+    let rest = value_or_space (value_again d.value) ++ importance_again d.important in
+    ap (λ b. b || (is_semicolon colon || list_any is_semicolon rest)) (semicolon-Single (piece_of (word kinds.Ident (name_text d.name))))
+    ∙ ap (λ b. b || list_any is_semicolon rest) (semicolon-Single (piece_of (word kinds.Colon (codes ":"))))
+    ∙ any-append is_semicolon (value_or_space (value_again d.value)) (importance_again d.important) (printed (value_again d.value) refl) (mark d.important)
+  where
+    printed : (va : List Component) → value_again d.value ≡ va → list_any is_semicolon (value_or_space va) ≡ false
+    printed [] e = ap (λ b. b || false) (semicolon-Single (piece_of (word kinds.White (codes " "))))
+    printed (c ∷ cs) e = ap (list_any is_semicolon) (sym e) ∙ any-value is_semicolon semicolon_layer laws d.value printable.formed ∙ printable.undivided
+    mark : (b : Bool) → list_any is_semicolon (importance_again b) ≡ false
+    mark true =
+        ap (λ b. b || (is_semicolon important || false)) (semicolon-Single (piece_of (word kinds.Delim (codes "!"))))
+        ∙ ap (λ b. b || false) (semicolon-Single (piece_of (word kinds.Ident (codes "important"))))
+    mark false = refl

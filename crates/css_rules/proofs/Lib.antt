@@ -15,3 +15,4 @@ pub mod CutAgain
 pub mod ValueFacts
 pub mod SoughtAgain
 pub mod DeclarationAgain
+pub mod SheetRound

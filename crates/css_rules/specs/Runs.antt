@@ -2,9 +2,15 @@
 use Rattle.std.specs.Prelude.{ℕ, List, [], ◌∷◌, ◌++◌, map, flat_map, Bool}
 use Rattle.css_tokens.specs.Values.{value_text}
 use Rattle.css_rules.specs.declared.sheet.Declaration.{Declaration}
+use Rattle.std.specs.Prelude.{◌≡◌, refl}
+use Rattle.std.proofs.Common.{◌∙◌, ap}
+use Rattle.std.proofs.lemmas.List.Folds.{flat_map-map}
 use Rattle.css_rules.specs.declared.sheet.Item.{Item}
+use Rattle.css_rules.specs.declared.sheet.Item as item
+use Rattle.css_rules.specs.declared.sheet.Style as style
+use Rattle.css_rules.specs.declared.sheet.Item.TheVariants.{outs-Style, outs-Plain}
 use Rattle.css_rules.specs.declared.sheet.Item.TheOpen.{Item-F, Style, Plain, Style-F}
-use Rattle.css_rules.specs.declared.sheet.Item.TheFolds.{fold-Item}
+use Rattle.css_rules.specs.declared.sheet.Item.TheFolds.{fold-Item, fold_out-Item}
 use Rattle.css_rules.specs.declared.sheet.Sheet.{Sheet}
 use Rattle.css_rules.specs.BareSelectors.{BareSelector, bare_list}
 
@@ -50,3 +56,14 @@ runs_of sheet = flat_map (λ item. runs_within item []) sheet.items
 -- the same with the texts of the values: what the cascade knows of a sheet
 abbrev pub bare_runs : Sheet → List BareRun
 bare_runs sheet = map bare_run (runs_of sheet)
+
+abbrev layer_runs : Item-F Item style.Style → Contribution
+layer_runs v = item_runs (item.map-Item Item style.Style Contribution Contribution (fold-Item Contribution Contribution item_runs style_runs) (style.fold-Style Contribution Contribution item_runs style_runs) v)
+
+pub runs_within-Plain : (ds : List Declaration) (chain : List (List BareSelector)) → runs_within (item.Plain ds) chain ≡ record { chain = chain; declarations = ds } ∷ []
+runs_within-Plain ds chain = ap (λ (f : Contribution). f chain) (fold_out-Item Contribution Contribution item_runs style_runs (item.Plain ds) ∙ ap layer_runs (outs-Plain ds))
+
+pub runs_within-Style : (s : style.Style) (chain : List (List BareSelector)) → runs_within (item.Style s) chain ≡ flat_map (λ inner. runs_within inner (chain ++ bare_list s.selectors ∷ [])) s.items
+runs_within-Style s chain =
+    ap (λ (f : Contribution). f chain) (fold_out-Item Contribution Contribution item_runs style_runs (item.Style s) ∙ ap layer_runs (outs-Style s) ∙ style.fold_out-Style Contribution Contribution item_runs style_runs s)
+    ∙ flat_map-map (λ (runs : Contribution). runs (chain ++ bare_list s.selectors ∷ [])) runs_within s.items

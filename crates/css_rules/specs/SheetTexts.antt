@@ -1,27 +1,30 @@
 -- How a sheet prints (CSSOM, sections 6.4 and 6.7; this project's own choice of white space).
 use Rattle.std.specs.Prelude.{ℕ, List, [], ◌∷◌, ◌++◌, map, flat_map, Bool, codes, if◌then◌else◌}
+use Rattle.css_tokens.specs.declared.component.Component.{Component}
 use Rattle.css_tokens.specs.NameText.{name_text}
+use Rattle.css_tokens.specs.Values.{value_text}
+use Rattle.css_rules.specs.declared.sheet.Declaration.{Declaration}
 use Rattle.css_rules.specs.BareSelectors.{BareSelector}
-use Rattle.css_rules.specs.Runs.{BareDeclaration, BareRun}
+use Rattle.css_rules.specs.Runs.{Run}
 use Rattle.css_rules.specs.SelectorTexts.{list_text}
 
 -- an empty value prints as one space
-abbrev pub printed_value : List ℕ → List ℕ
+abbrev pub printed_value : List Component → List ℕ
 printed_value [] = codes " "
-printed_value (b ∷ bs) = b ∷ bs
+printed_value (c ∷ cs) = value_text (c ∷ cs)
 
 -- the mark of importance, where there is one
 abbrev pub importance_text : Bool → List ℕ
 importance_text important = if important then codes "!important" else []
 
-abbrev pub declaration_text : BareDeclaration → List ℕ
+abbrev pub declaration_text : Declaration → List ℕ
 declaration_text d = name_text d.name ++ (codes ":" ++ (printed_value d.value ++ importance_text d.important))
 
-abbrev pub more_declarations : List BareDeclaration → List ℕ
+abbrev pub more_declarations : List Declaration → List ℕ
 more_declarations ds = flat_map (λ d. codes ";" ++ declaration_text d) ds
 
 -- declarations joined by semicolons
-abbrev pub declarations_text : List BareDeclaration → List ℕ
+abbrev pub declarations_text : List Declaration → List ℕ
 declarations_text [] = []
 declarations_text (d ∷ ds) = declaration_text d ++ more_declarations ds
 
@@ -32,8 +35,8 @@ innermost (list ∷ []) = list
 innermost (list ∷ more ∷ chain) = innermost (more ∷ chain)
 
 -- a rule for each run, and a line feed behind it
-abbrev pub run_text : BareRun → List ℕ
+abbrev pub run_text : Run → List ℕ
 run_text run = list_text (innermost run.chain) ++ (codes "{" ++ (declarations_text run.declarations ++ (codes "}" ++ 10 ∷ [])))
 
-abbrev pub sheet_text : List BareRun → List ℕ
+abbrev pub sheet_text : List Run → List ℕ
 sheet_text runs = flat_map run_text runs
