@@ -16,3 +16,4 @@ pub mod ValueFacts
 pub mod SoughtAgain
 pub mod DeclarationAgain
 pub mod SheetRound
+pub mod PreludeAgain
