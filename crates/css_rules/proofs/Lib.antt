@@ -17,3 +17,4 @@ pub mod SoughtAgain
 pub mod DeclarationAgain
 pub mod SheetRound
 pub mod PreludeAgain
+pub mod RulesAgain

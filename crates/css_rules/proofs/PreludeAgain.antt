@@ -18,7 +18,9 @@ use Rattle.css_rules.specs.declared.selector.Selector.{Selector}
 use Rattle.css_rules.specs.declared.selector.sign.Sign.{Sign}
 use Rattle.css_rules.specs.declared.selector.sign.Sign.TheVariants as signs
 use Rattle.css_rules.specs.declared.refusal.Refusal.{Refusal}
+use Rattle.css_rules.specs.declared.refusal.Sought.{Sought}
 use Rattle.css_rules.specs.declared.refusal.Sought.TheVariants.{ColonOrBracket, Ampersand}
+use Rattle.css_rules.proofs.SelectorSpelling.{words-again}
 use Rattle.css_rules.specs.BareSelectors.{BareCompound, BareSelector, bare_list}
 use Rattle.css_rules.specs.Components.{is_at_keyword, is_at_kind}
 use Rattle.css_rules.specs.Signs.{sign_of, open_sign, is_gap, open_gap, is_comma, open_comma, place_of}
@@ -191,7 +193,36 @@ feed-faults cs end =
     ap (λ (cut : Member × List Member). cons_option (fault_of end cut.0) (filter_map (fault_of end) cut.1)) (feed-cut cs)
     ∙ ap (λ o. cons_option o (filter_map (fault_of end) (cut_at_commas cs).1)) (feed-fault (cut_at_commas cs).0 end)
 
--- what stands before a printed rule: nothing, or the line feed behind the rule before
-pub data IsLead : List Component → Type 0 where
-  Nothing : IsLead []
-  Feed : IsLead (line_feed ∷ [])
+-- what stands before a printed rule: the line feed behind the rule before, or nothing
+abbrev pub lead_of : Bool → List Component
+lead_of true = line_feed ∷ []
+lead_of false = []
+
+pub words-cons : (w : Word) (cs : List Component) → words_all (single_of w ∷ cs) ≡ w ∷ words_all cs
+words-cons w cs = ap (λ (ps : List Piece). map word_of (ps ++ pieces_all cs)) (pieces_of-Single (piece_of w))
+
+-- no token of a printed prelude is of these kinds
+unsought-front : (sought : Sought) (b : Bool) (cs : List Component) → word_sought sought (word kinds.White (10 ∷ [])) ≡ false → list_any (word_sought sought) (words_all cs) ≡ false → sought_in sought (lead_of b ++ cs) ≡ []
+unsought-front sought true cs feed none =
+    unsought-words sought (line_feed ∷ cs)
+    (ap (list_any (word_sought sought)) (words-cons (word kinds.White (10 ∷ [])) cs) ∙ ap (λ b. b || list_any (word_sought sought) (words_all cs)) feed ∙ none)
+unsought-front sought false cs feed none = unsought-words sought cs none
+
+-- a printed prelude is refused for nothing
+pub prelude-again : (b : Bool) (bs : List BareSelector) (end : ℕ) → list_any is_nesting bs ≡ false → list_faults (list_again bs) end ≡ [] → prelude_refusals (lead_of b ++ list_again bs) end ≡ []
+prelude-again b bs end nesting sound =
+    let front = lead_of b ++ list_again bs in
+    let words = words-again (list_words bs) in
+    let colon = unsought-front ColonOrBracket b (list_again bs) refl (ap (list_any (word_sought ColonOrBracket)) words ∙ any-list (word_sought ColonOrBracket) colon_foreign bs nesting) in
+    let ampersand = unsought-front Ampersand b (list_again bs) refl (ap (list_any (word_sought Ampersand)) words ∙ any-list (word_sought Ampersand) ampersand_foreign bs nesting) in
+    ap (λ rs. prelude_refusals_by rs front end) colon
+    ∙ ap (λ rs. rs ++ first_fault (list_faults front end)) ampersand
+    ∙ ap first_fault (faults b)
+  where
+    faults : (b : Bool) → list_faults (lead_of b ++ list_again bs) end ≡ []
+    faults true = feed-faults (list_again bs) end ∙ sound
+    faults false = sound
+
+pub bare-lead : (b : Bool) (cs : List Component) → bare_list (list_of (lead_of b ++ cs)) ≡ bare_list (list_of cs)
+bare-lead true cs = ap bare_list (feed-list cs)
+bare-lead false cs = refl

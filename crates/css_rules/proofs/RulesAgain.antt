@@ -1,0 +1,107 @@
+-- A printed sheet is read as that sheet, rule by rule.
+use Rattle.std.proofs.Common.{◌≡◌, ℕ, List, [], ◌∷◌, ◌++◌, map, flat_map, Bool, true, false, ◌&&◌, ◌||◌, not, Option, Some, None, refl, sym, ◌∙◌, ap, subst, cond, IsTrue, codes}
+use Rattle.std.specs.List.{list_any, list_all, AllByRecursion}
+use Rattle.std.proofs.lemmas.List.{append_assoc, append-nil}
+use Rattle.css_tokens.specs.declared.kind.Kind.TheVariants as kinds
+use Rattle.css_tokens.specs.declared.component.Component.{Component}
+use Rattle.css_tokens.specs.declared.component.Component as component
+use Rattle.css_tokens.specs.declared.component.Block as block
+use Rattle.css_tokens.specs.Trees.{words_all}
+use Rattle.css_rules.specs.declared.refusal.Refusal.{Refusal}
+use Rattle.css_rules.specs.declared.refusal.Refusal.TheVariants.{Syntax, Unbuilt}
+use Rattle.css_rules.specs.declared.sheet.Declaration.{Declaration}
+use Rattle.css_rules.specs.declared.sheet.Item.{Item}
+use Rattle.css_rules.specs.BareSelectors.{BareSelector, bare_list}
+use Rattle.css_rules.specs.Components.{head, inside, is_braces, is_at_keyword, is_gap}
+use Rattle.css_rules.specs.Cuts.{Cut, cuts, trimmed, trimmed_start, trimmed_end}
+use Rattle.css_rules.specs.Selectors.{list_of, list_faults}
+use Rattle.css_rules.specs.ReadableSelectors.{is_readable_list}
+use Rattle.css_rules.specs.SelectorWords.{word, list_words, list_again}
+use Rattle.css_rules.specs.Sheets.{declarations_of, run_of, rule_of, rules_of, sheet_of, block_refusals, prelude_refusals, leftover_refusals, rule_refusals, rule_refusals_by, begins_at_rule, first_place, sheet_refusals}
+use Rattle.css_rules.specs.Runs.{Run, BareRun, bare_run, bare_declaration, runs_within, runs_of, bare_runs, runs_within-Plain, runs_within-Style}
+use Rattle.css_rules.specs.Printable.{IsPrintable, IsPrintableDeclaration, ArePrintable, is_nesting}
+use Rattle.css_rules.specs.SheetTexts.{innermost}
+use Rattle.css_rules.specs.SheetAgain.{line_feed, declarations_again, block_again, run_again, sheet_again}
+use Rattle.css_rules.proofs.CutLemmas.{trimmed_start-gap}
+use Rattle.css_rules.proofs.CutAgain.{cuts-front, cuts-whole, any-append, any-trimmed_end}
+use Rattle.css_rules.proofs.DeclarationLemmas.{or_false_left, or_false_right}
+use Rattle.css_rules.proofs.Heads.{piece_of, inside-Block, at-Single, braces-Single, braces-Block, braces-singles, gap-Single}
+use Rattle.css_rules.proofs.ValueFacts.{ValueLaws}
+use Rattle.css_rules.proofs.DeclarationAgain.{read_again}
+use Rattle.css_rules.proofs.SheetRound.{NameLaws, declarations-again, bares-again, block-again}
+use Rattle.css_rules.proofs.PreludeAgain.{lead_of, no_at, prelude-again, bare-lead}
+
+-- what is ensured of printed selectors
+pub record SelectorLaws : Type 0 where
+  pub sound : (bs : List BareSelector) (cs : List Component) (end : ℕ) → IsTrue (is_readable_list bs) → words_all cs ≡ words_all (list_again bs) → list_faults cs end ≡ []
+  pub same : (bs : List BareSelector) (cs : List Component) → IsTrue (is_readable_list bs) → words_all cs ≡ words_all (list_again bs) → bare_list (list_of cs) ≡ bs
+
+-- the cuts of a printed sheet
+abbrev sheet_cuts : Bool → List Run → List Cut
+sheet_cuts b [] = record { front = lead_of b; mark = None } ∷ []
+sheet_cuts b (run ∷ runs) = record { front = lead_of b ++ list_again (innermost run.chain); mark = Some (block_again run.declarations) } ∷ sheet_cuts true runs
+
+lead_braces : (b : Bool) → list_any is_braces (lead_of b) ≡ false
+lead_braces true = ap (λ b. b || false) (braces-Single (piece_of (word kinds.White (10 ∷ []))))
+lead_braces false = refl
+
+block_marks : (ds : List Declaration) → is_braces (block_again ds) ≡ true
+block_marks ds = braces-Block (record { opening = record { kind = kinds.Open; text = codes "{"; at = 0 }; items = declarations_again ds; close = 0 })
+
+cuts-sheet : (b : Bool) (runs : List Run) → cuts is_braces (lead_of b ++ sheet_again runs) ≡ sheet_cuts b runs
+cuts-sheet b [] = ap (cuts is_braces) (append-nil (lead_of b)) ∙ cuts-whole is_braces (lead_of b) (lead_braces b)
+cuts-sheet b (run ∷ runs) =
+    let list = list_again (innermost run.chain) in
+    let brace = block_again run.declarations in
+    ap (λ cs. cuts is_braces (lead_of b ++ cs)) (append_assoc list (brace ∷ line_feed ∷ []) (sheet_again runs))
+    ∙ ap (cuts is_braces) (sym (append_assoc (lead_of b) list (brace ∷ line_feed ∷ sheet_again runs)))
+    ∙ cuts-front is_braces (lead_of b ++ list) brace (line_feed ∷ sheet_again runs) (any-append is_braces (lead_of b) list (lead_braces b) (braces-singles (list_words (innermost run.chain)))) (block_marks run.declarations)
+    ∙ ap (λ rest. record { front = lead_of b ++ list; mark = Some brace } ∷ rest) (cuts-sheet true runs)
+
+-- a printable run with its one list and its declarations in sight
+record IsMade (run : Run) : Type 0 where
+  list : List BareSelector
+  first : Declaration
+  more : List Declaration
+  is : run ≡ record { chain = list ∷ []; declarations = first ∷ more }
+  readable : IsTrue (is_readable_list list)
+  unnested : list_any is_nesting list ≡ false
+  each : AllByRecursion IsPrintableDeclaration (first ∷ more)
+
+made : (run : Run) → IsPrintable run → IsMade run
+made run p = record {
+  list = p.selectors.0;
+  first = p.some.0;
+  more = p.some.1.0;
+  is = ap (λ chain. record { chain = chain; declarations = run.declarations }) p.selectors.1.0 ∙ ap (λ ds. record { chain = p.selectors.0 ∷ []; declarations = ds }) p.some.1.1;
+  readable = p.selectors.1.1;
+  unnested = p.selectors.1.2;
+  each = let All : List Declaration → Type 0 = AllByRecursion IsPrintableDeclaration in subst All p.some.1.1 p.each;
+}
+
+module _ (values : ValueLaws) (names : NameLaws) (selectors : SelectorLaws) where
+  -- the runs of a printed rule say what was printed
+  rule-runs : (b : Bool) (list : List BareSelector) (d : Declaration) (ds : List Declaration) → IsTrue (is_readable_list list) → AllByRecursion IsPrintableDeclaration (d ∷ ds)
+      → map bare_run (flat_map (λ item. runs_within item []) (rule_of (lead_of b ++ list_again list) (Some (block_again (d ∷ ds))))) ≡ record { chain = list ∷ []; declarations = map bare_declaration (d ∷ ds) } ∷ []
+  rule-runs b list d ds readable printable = ?
+
+  rules-again : (b : Bool) (runs : List Run) → ArePrintable runs
+      → map bare_run (flat_map (λ item. runs_within item []) (flat_map (λ cut. rule_of cut.front cut.mark) (sheet_cuts b runs))) ≡ map bare_run runs
+  rules-again b [] p = refl
+  rules-again b (run ∷ runs) p = ?
+
+  -- nothing in a printed sheet is refused
+  rule-faultless : (b : Bool) (list : List BareSelector) (d : Declaration) (ds : List Declaration) → IsTrue (is_readable_list list) → list_any is_nesting list ≡ false → AllByRecursion IsPrintableDeclaration (d ∷ ds)
+      → rule_refusals (record { front = lead_of b ++ list_again list; mark = Some (block_again (d ∷ ds)) }) ≡ []
+  rule-faultless b list d ds readable unnested printable = ?
+
+  faultless-again : (b : Bool) (runs : List Run) → ArePrintable runs → flat_map rule_refusals (sheet_cuts b runs) ≡ []
+  faultless-again b [] p = ?
+  faultless-again b (run ∷ runs) p = ?
+
+  -- a printed sheet is read as that sheet
+  pub sheet-again : (runs : List Run) → ArePrintable runs → bare_runs (sheet_of (sheet_again runs)) ≡ map bare_run runs
+  sheet-again runs p = ap (λ cs. map bare_run (flat_map (λ item. runs_within item []) (flat_map (λ cut. rule_of cut.front cut.mark) cs))) (cuts-sheet false runs) ∙ rules-again false runs p
+
+  pub sheet-faultless : (runs : List Run) → ArePrintable runs → sheet_refusals (sheet_again runs) ≡ []
+  sheet-faultless runs p = ap (flat_map rule_refusals) (cuts-sheet false runs) ∙ faultless-again false runs p
