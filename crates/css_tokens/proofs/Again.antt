@@ -68,7 +68,7 @@ lowered b n h =
       ]
     ]
 
-lowered_class : (b n m : ℕ) (c : Class) → m + 32 ≡ n → class_of n ≡ c → class_of m ≡ c → to_ascii_lowercase b ≡ n → class_of b ≡ c
+pub lowered_class : (b n m : ℕ) (c : Class) → m + 32 ≡ n → class_of n ≡ c → class_of m ≡ c → to_ascii_lowercase b ≡ n → class_of b ≡ c
 lowered_class b n m c e f g h =
     elim (lowered b n h) [
       | inl i ↦ ap class_of i ∙ f
@@ -85,7 +85,7 @@ paren_class b h =
 abbrev pub url_name : List Class
 url_name = class.Letter ∷ class.Letter ∷ class.Letter ∷ class.OpenParen ∷ []
 
-head_tail : (x y : ℕ) (xs ys : List ℕ) → x ∷ xs ≡ y ∷ ys → (x ≡ y) × (xs ≡ ys)
+pub head_tail : (x y : ℕ) (xs ys : List ℕ) → x ∷ xs ≡ y ∷ ys → (x ≡ y) × (xs ≡ ys)
 head_tail x y xs ys h = (cc, cc)
 
 url_by : (p : List ℕ) → map to_ascii_lowercase p ≡ codes "url(" → classes_of p ≡ url_name

@@ -1,8 +1,11 @@
 -- What a token of a kind begins with, and whether a quote comes behind it.
-use Rattle.std.proofs.Common.{◌≡◌, ℕ, List, [], ◌∷◌, ◌++◌, Bool, true, false, not, ◌&&◌, ◌||◌, ◌⊎◌, refl, sym, inl, inr, ap, ◌∙◌, subst, Option, Some, None, append_assoc}
+use Rattle.std.proofs.Common.{◌≡◌, ℕ, List, [], ◌∷◌, ◌++◌, Bool, true, false, not, ◌&&◌, ◌||◌, refl, sym, inl, inr, ap, ◌∙◌, subst, Option, Some, None, map, codes}
 use Rattle.std.proofs.lemmas.Bool.{cases_Bool, and_parts, both_ways, not-true}
 use Rattle.std.proofs.lemmas.List.{map-append}
+use Rattle.std.specs.Char.{to_ascii_lowercase}
 use Rattle.std.specs.List.{list_all, list_any}
+use Rattle.std.specs.Str.{str_to_ascii_lowercase}
+use lib.Pointwise.{bytes_decides}
 use Rattle.css_tokens.specs.declared.class.Class.{Class}
 use Rattle.css_tokens.specs.declared.class.Class.TheVariants as class
 use Rattle.css_tokens.specs.declared.kind.Kind.{Kind}
@@ -14,13 +17,14 @@ use Rattle.css_tokens.specs.Kinds.{begins, starts}
 use Rattle.css_tokens.specs.Machine.{next, ended}
 use Rattle.css_tokens.specs.Piece.{Word}
 use Rattle.css_tokens.specs.Tokens.{classes_of, quote_follows, is_url}
+use Rattle.css_tokens.specs.Trees.{is_text}
 use Rattle.css_tokens.specs.Again.{StaysFirst, stops, is_stop, is_end_kind, begins_none}
 use Rattle.css_tokens.specs.Values.{is_white, is_gap}
 use Rattle.css_tokens.proofs.Firsts.{ByTable, AsUrl, first_cases}
 use Rattle.css_tokens.proofs.GapLemmas.{kind_cases}
 use Rattle.css_tokens.proofs.MachineRows.{each_class}
 use Rattle.css_tokens.proofs.Runs.{run, longest-ended, same_inside}
-use Rattle.css_tokens.proofs.Again.{comes_to, url_classes}
+use Rattle.css_tokens.proofs.Again.{comes_to, head_tail, lowered_class, url_classes}
 
 taken : (a b : Bool) → a ≡ true → (not a || b) ≡ true → b ≡ true
 taken true b h k = k
@@ -273,3 +277,31 @@ gap_end _ e = cc
 
 pub gap_stops : (w : Word) (a : List ℕ) → is_gap w.kind ≡ true → StaysFirst w a → is_stop (classes_of (w.text ++ a)) ≡ true
 gap_stops w a g f = end_stops w a f (gap_end w.kind g)
+
+-- a `!` with no `-` behind it is a stop, and what may stand behind it begins with no `-`
+no_minus : (t : List Class) → not (begins (class.Minus ∷ []) t) ≡ true → not (starts t class.Minus) ≡ true
+no_minus t h =
+    elim (cases_Bool (starts t class.Minus)) [
+      | inl e ↦ let g : false ≡ true = rw e at h in cc
+      | inr e ↦ ap not e
+    ]
+
+pub bang_stops : (rest : List ℕ) → begins_none (class.Minus ∷ []) rest ≡ true → is_stop (classes_of (codes "!" ++ rest)) ≡ true
+bang_stops rest h = no_minus (classes_of rest) h
+
+end_no_minus : (x : Class) (t : List Class) → has stops x ≡ true → not (begins (class.Minus ∷ []) (x ∷ t)) ≡ true
+end_no_minus class.Minus t h = cc
+end_no_minus x t h = refl
+
+pub gap_no_minus : (w : Word) (rest : List ℕ) → StaysFirst w rest → is_gap w.kind ≡ true → begins_none (class.Minus ∷ []) (w.text ++ rest) ≡ true
+gap_no_minus w rest f g =
+    let b = end_begins w rest f (gap_end w.kind g) in
+    ap (λ c. not (begins (class.Minus ∷ []) c)) (map-append class_of w.text rest ∙ ap (λ c. c ++ classes_of rest) b.2)
+    ∙ end_no_minus b.0 (b.1 ++ classes_of rest) (and_parts (has stops b.0) _ b.3).0
+
+keyword_first : (u rest : List ℕ) → map to_ascii_lowercase u ≡ codes "important" → begins_none (class.Minus ∷ []) (u ++ rest) ≡ true
+keyword_first [] rest h = cc
+keyword_first (b ∷ u) rest h = ap (λ c. not (begins (class.Minus ∷ []) (c ∷ classes_of (u ++ rest)))) (lowered_class b 105 73 class.Letter refl refl refl (head_tail (to_ascii_lowercase b) 105 _ _ h).0)
+
+pub important_no_minus : (u rest : List ℕ) → is_text (str_to_ascii_lowercase u) (codes "important") ≡ true → begins_none (class.Minus ∷ []) (u ++ rest) ≡ true
+important_no_minus u rest h = keyword_first u rest ((bytes_decides (str_to_ascii_lowercase u) (codes "important")).0 h)

@@ -1,12 +1,11 @@
 -- The printed text of a value reads as its words.
-use Rattle.std.proofs.Common.{◌≡◌, ℕ, zero, suc, ◌+◌, List, [], ◌∷◌, ◌++◌, map, length, drop, Bool, true, false, not, ◌&&◌, ◌||◌, cond, refl, sym, inl, inr, ap, ap₂, ◌∙◌, subst, Some, arith, append_assoc, length-append, codes}
+use Rattle.std.proofs.Common.{◌≡◌, ℕ, List, [], ◌∷◌, ◌++◌, length, drop, Bool, true, false, not, ◌&&◌, cond, refl, sym, inl, inr, ap, ◌∙◌, subst, Some, arith, append_assoc, length-append, codes}
 use Rattle.std.proofs.Math.Seq.{drop-append_seam}
 use Rattle.std.proofs.lemmas.Bool.{cases_Bool, and_parts, both_ways, not-false}
 use Rattle.std.proofs.lemmas.List.{append_cancel_left, append_cancel_right, map-append}
 use Rattle.std.proofs.lemmas.List.Concat.{flat_map-append}
-use Rattle.std.specs.List.{list_any, list_all}
+use Rattle.std.specs.List.{list_all}
 use Rattle.css_tokens.specs.declared.class.Class.{Class}
-use Rattle.css_tokens.specs.declared.class.Class.TheVariants as class
 use Rattle.css_tokens.specs.declared.component.Component.{Component}
 use Rattle.css_tokens.specs.declared.component.Component as component
 use Rattle.css_tokens.specs.declared.component.Block.{Block}
@@ -17,14 +16,14 @@ use Rattle.css_tokens.specs.Characters.{class_of, has, white}
 use Rattle.css_tokens.specs.Machine.{ended}
 use Rattle.css_tokens.specs.Piece.{Piece, Word, word_of, spelled}
 use Rattle.css_tokens.specs.Tokens.{First, ReadsTo, classes_of, is_refused, is_url, quote_follows, spells}
-use Rattle.css_tokens.specs.Trees.{is_text, opens, closing, closing_text, words_all, is_formed, is_formed-Single, is_formed-Block, all_formed}
-use Rattle.css_tokens.specs.Again.{StaysFirst, Alike, is_stop, is_solid, word_from}
-use Rattle.css_tokens.specs.Values.{is_white, is_gap, short_text, short_word, value_words, value_text}
+use Rattle.css_tokens.specs.Trees.{is_text, opens, closing, words_all, is_formed, is_formed-Single, is_formed-Block, all_formed}
+use Rattle.css_tokens.specs.Again.{StaysFirst, Alike, is_stop, is_solid}
+use Rattle.css_tokens.specs.Values.{is_white, is_gap, short_word, value_words, value_text}
 use Rattle.css_tokens.proofs.Again.{keeps, ended_mark, url_found}
 use Rattle.css_tokens.proofs.AgainLemmas.{words_of, words_of-Single}
 use Rattle.css_tokens.proofs.Beginnings.{Quotes, is_dark, quotes_front, quotes_behind, gap_quotes, gap_stops, dark_none, url_ended}
-use Rattle.css_tokens.proofs.Firsts.{ByTable, AsUrl, first_cases}
-use Rattle.css_tokens.proofs.GapLemmas.{kind_cases, not_white, is_gap-kept}
+use Rattle.css_tokens.proofs.Firsts.{AsUrl, first_cases}
+use Rattle.css_tokens.proofs.GapLemmas.{not_white, is_gap-kept}
 use Rattle.css_tokens.proofs.PrintedAgain.{IsShort, short-short}
 use Rattle.css_tokens.proofs.Rebuilt.{both}
 use Rattle.css_tokens.proofs.Runs.{run, same_inside}
@@ -166,8 +165,8 @@ block_closes opening items close each h =
     let last : List Word = word_of (closing opening close) ∷ [] in
     subst Closes (sym (words_of-Block b)) (
       λ e. ap (λ t. is_dark (classes_of t)) (spelled-append (words_all items) last)
-      ∙ ap is_dark (map-append class_of (spelled (words_all items)) (spelled last))
-      ∙ any_behind (classes_of (spelled (words_all items))) (classes_of (spelled last)) (dark_end opening close),
+          ∙ ap is_dark (map-append class_of (spelled (words_all items)) (spelled last))
+          ∙ any_behind (classes_of (spelled (words_all items))) (classes_of (spelled last)) (dark_end opening close),
       closes_more (words_all items) last (all_close items each f.1) (λ e. cc, tt),
     )
 
