@@ -68,7 +68,7 @@ lowered b n h =
       ]
     ]
 
-lowered_class : (b n m : ℕ) (c : Class) → m + 32 ≡ n → class_of n ≡ c → class_of m ≡ c → to_ascii_lowercase b ≡ n → class_of b ≡ c
+pub lowered_class : (b n m : ℕ) (c : Class) → m + 32 ≡ n → class_of n ≡ c → class_of m ≡ c → to_ascii_lowercase b ≡ n → class_of b ≡ c
 lowered_class b n m c e f g h =
     elim (lowered b n h) [
       | inl i ↦ ap class_of i ∙ f
@@ -85,7 +85,7 @@ paren_class b h =
 abbrev pub url_name : List Class
 url_name = class.Letter ∷ class.Letter ∷ class.Letter ∷ class.OpenParen ∷ []
 
-head_tail : (x y : ℕ) (xs ys : List ℕ) → x ∷ xs ≡ y ∷ ys → (x ≡ y) × (xs ≡ ys)
+pub head_tail : (x y : ℕ) (xs ys : List ℕ) → x ∷ xs ≡ y ∷ ys → (x ≡ y) × (xs ≡ ys)
 head_tail x y xs ys h = (cc, cc)
 
 url_by : (p : List ℕ) → map to_ascii_lowercase p ≡ codes "url(" → classes_of p ≡ url_name
@@ -112,7 +112,7 @@ pub end_longest : (k : Kind) (t : List Class) → longest_in (state.End k) t ≡
 end_longest k [] = longest_in-nil (state.End k)
 end_longest k (x ∷ t) = longest_in-step (state.End k) x t ∙ ap (λ o. one_more o (Some k)) (longest_in-dead t)
 
-url_found : (p a : List ℕ) → is_url p ≡ true → longest_in state.Start (classes_of (p ++ a)) ≡ Some (kind.Function, length p)
+pub url_found : (p a : List ℕ) → is_url p ≡ true → longest_in state.Start (classes_of (p ++ a)) ≡ Some (kind.Function, length p)
 url_found p a h = comes_from state.Start p a kind.Function (ap (λ c. longest_in (run state.Start c) (classes_of a)) (url_classes p h) ∙ end_longest kind.Function (classes_of a))
 
 -- the inside of a Url
@@ -226,7 +226,7 @@ composes t [] ys s r f g = subst (λ u. ReadsTo u ys r) (sym f) g
 composes t (x ∷ xs) ys s r f g = (f.0, f.1, composes (drop (length x.text) t) xs ys s r f.2 g)
 
 -- the words that stay first before any text
-ended_mark : (u : List ℕ) (k : Kind) → run state.Start (classes_of u) ≡ state.End k → is_url u ≡ false → (rest : List ℕ) → StaysFirst (word_from k u) rest
+pub ended_mark : (u : List ℕ) (k : Kind) → run state.Start (classes_of u) ≡ state.End k → is_url u ≡ false → (rest : List ℕ) → StaysFirst (word_from k u) rest
 ended_mark u k e f rest = by_table (word_from k u) rest (record {
   found = comes_from state.Start u rest k (ap (λ s. longest_in s (classes_of rest)) e ∙ end_longest k (classes_of rest));
   ruled = ap (λ b. b && not (quote_follows (classes_of rest))) f;

@@ -26,3 +26,5 @@ pub mod NameLemmas
 pub mod NameTextLemmas
 pub mod NestLemmas
 pub mod PairingLemmas
+pub mod Beginnings
+pub mod ValueReads

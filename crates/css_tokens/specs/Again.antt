@@ -1,5 +1,6 @@
 -- What lets a text be read again as the words that it was made of.
 use Rattle.std.specs.Prelude.{ℕ, List, [], ◌∷◌, ◌++◌, ◌≡◌, Bool, true, ◌||◌, ◌&&◌, not, codes}
+use Rattle.std.specs.List.{list_any}
 use Rattle.css_tokens.specs.declared.kind.Kind.{Kind}
 use Rattle.css_tokens.specs.declared.kind.Kind.TheVariants as kind
 use Rattle.css_tokens.specs.declared.class.Class.{Class}
@@ -39,6 +40,10 @@ KeepsQuote a b = quote_follows (classes_of a) ≡ true → quote_follows (classe
 -- is it neither white space nor a comment?
 abbrev pub is_solid : Kind → Bool
 is_solid k = not (is_kind k kind.White) && not (is_kind k kind.Comment)
+
+-- white space, a comment, a semicolon, or what closes a block: what may stand behind a value
+abbrev pub is_end_kind : Kind → Bool
+is_end_kind k = list_any (is_kind k) (kind.White ∷ kind.Comment ∷ kind.Semicolon ∷ kind.Close ∷ [])
 
 abbrev pub word_from : Kind → List ℕ → Word
 word_from k text = record { kind = k; text = text }

@@ -1,11 +1,15 @@
-ghost use Rattle.std.specs.Prelude.{ℕ, List, ◌∷◌, [], ◌++◌, ◌≡◌, true, false, codes};
-ghost use Rattle.std.specs.List.{AllByRecursion};
+ghost use Rattle.std.specs.Prelude.{ℕ, List, ◌∷◌, [], ◌++◌, ◌≡◌, IsTrue, true, false, codes};
+ghost use Rattle.std.specs.List.{AllByRecursion, list_all};
+ghost use Rattle.std.specs.Str.{str_to_ascii_lowercase};
+ghost use Rattle.css_tokens.specs.declared.component.Component.{Component};
 ghost use Rattle.css_tokens.specs.declared.class.Class.TheVariants as class;
 ghost use Rattle.css_tokens.specs.declared.kind.Kind.TheVariants as kind;
-ghost use Rattle.css_tokens.specs.Again.{StaysFirst, Alike, KeepsQuote, is_solid, word_from, marks, begins_none, after_ident};
+ghost use Rattle.css_tokens.specs.Again.{StaysFirst, Alike, KeepsQuote, is_solid, is_stop, is_end_kind, word_from, marks, begins_none, after_ident};
 ghost use Rattle.css_tokens.specs.Characters.{name, white};
 ghost use Rattle.css_tokens.specs.Piece.{Word, spelled};
-ghost use Rattle.css_tokens.specs.Tokens.{Reads, ReadsTo, StopsAt, classes_of, is_url, quote_follows, spells};
+ghost use Rattle.css_tokens.specs.Tokens.{First, Reads, ReadsTo, StopsAt, classes_of, is_url, quote_follows, spells};
+ghost use Rattle.css_tokens.specs.Trees.{words_all, all_formed, is_text};
+ghost use Rattle.css_tokens.specs.Values.{is_gap, value_words, value_text};
 
 /// A text reads in at most one way, or has a fault at one place, and never both.
 pub fn one_reading()
@@ -29,4 +33,18 @@ pub fn words_again()
     ensures string { (u rest : List ℕ) → spells kind.String u ≡ true → StaysFirst (word_from kind.String u) rest }
     ensures function { (u rest : List ℕ) → spells kind.Function u ≡ true → is_url u ≡ false → StaysFirst (word_from kind.Function u) rest }
     ensures url { (u rest : List ℕ) → is_url u ≡ true → quote_follows (classes_of rest) ≡ true → StaysFirst (word_from kind.Function u) rest }
+{}
+
+/// The printed text of a value reads as its words, before whatever begins with a stop. A reading splits anywhere. What
+/// ends a declaration begins with a stop: white space, a comment, `;`, a closing bracket, and a `!` with no `-` behind it.
+pub fn values_again()
+    ensures printed { (v : List Component) (s r : List ℕ) → IsTrue (all_formed v) → is_stop (classes_of s) ≡ true → is_stop (classes_of r) ≡ true → ReadsTo (spelled (words_all v) ++ s) (words_all v) s → ReadsTo (value_text v ++ r) (value_words v) r }
+    ensures front { (xs ys : List Word) (s : List ℕ) → ReadsTo (spelled (xs ++ ys) ++ s) (xs ++ ys) s → ReadsTo (spelled xs ++ (spelled ys ++ s)) xs (spelled ys ++ s) }
+    ensures back { (xs ys : List Word) (s : List ℕ) → ReadsTo (spelled (xs ++ ys) ++ s) (xs ++ ys) s → ReadsTo (spelled ys ++ s) ys s }
+    ensures stops { (w : Word) (rest : List ℕ) → StaysFirst w rest → is_end_kind w.kind ≡ true → is_stop (classes_of (w.text ++ rest)) ≡ true }
+    ensures bang { (rest : List ℕ) → begins_none (class.Minus ∷ []) rest ≡ true → is_stop (classes_of (codes "!" ++ rest)) ≡ true }
+    ensures gap { (w : Word) (rest : List ℕ) → StaysFirst w rest → is_gap w.kind ≡ true → begins_none (class.Minus ∷ []) (w.text ++ rest) ≡ true }
+    ensures important { (u rest : List ℕ) → is_text (str_to_ascii_lowercase u) (codes "important") ≡ true → begins_none (class.Minus ∷ []) (u ++ rest) ≡ true }
+    ensures word_spelled { (t : List ℕ) (w : Word) → First t w → spells w.kind w.text ≡ true }
+    ensures words_spelled { (t : List ℕ) (ws : List Word) (s : List ℕ) → ReadsTo t ws s → list_all (λ w. spells w.kind w.text) ws ≡ true }
 {}

@@ -1,0 +1,302 @@
+-- The printed text of a value reads as its words.
+use Rattle.std.proofs.Common.{◌≡◌, ℕ, List, [], ◌∷◌, ◌++◌, length, drop, Bool, true, false, not, ◌&&◌, cond, refl, sym, inl, inr, ap, ◌∙◌, subst, Some, arith, append_assoc, length-append, codes}
+use Rattle.std.proofs.Math.Seq.{drop-append_seam}
+use Rattle.std.proofs.lemmas.Bool.{cases_Bool, and_parts, both_ways, not-false}
+use Rattle.std.proofs.lemmas.List.{append_cancel_left, append_cancel_right, map-append}
+use Rattle.std.proofs.lemmas.List.Concat.{flat_map-append}
+use Rattle.std.specs.List.{list_all}
+use Rattle.css_tokens.specs.declared.class.Class.{Class}
+use Rattle.css_tokens.specs.declared.component.Component.{Component}
+use Rattle.css_tokens.specs.declared.component.Component as component
+use Rattle.css_tokens.specs.declared.component.Block.{Block}
+use Rattle.css_tokens.specs.declared.kind.Kind.{Kind}
+use Rattle.css_tokens.specs.declared.kind.Kind.TheVariants as kind
+use Rattle.css_tokens.specs.declared.machine.State.TheVariants as state
+use Rattle.css_tokens.specs.Characters.{class_of, has, white}
+use Rattle.css_tokens.specs.Machine.{ended}
+use Rattle.css_tokens.specs.Piece.{Piece, Word, word_of, spelled}
+use Rattle.css_tokens.specs.Tokens.{First, ReadsTo, classes_of, is_refused, is_url, quote_follows, spells}
+use Rattle.css_tokens.specs.Trees.{is_text, opens, closing, words_all, is_formed, is_formed-Single, is_formed-Block, all_formed}
+use Rattle.css_tokens.specs.Again.{StaysFirst, Alike, is_stop, is_solid}
+use Rattle.css_tokens.specs.Values.{is_white, is_gap, short_word, value_words, value_text}
+use Rattle.css_tokens.proofs.Again.{keeps, ended_mark, url_found}
+use Rattle.css_tokens.proofs.AgainLemmas.{words_of, words_of-Single}
+use Rattle.css_tokens.proofs.Beginnings.{Quotes, is_dark, quotes_front, quotes_behind, gap_quotes, gap_stops, dark_none, url_ended}
+use Rattle.css_tokens.proofs.Firsts.{AsUrl, first_cases}
+use Rattle.css_tokens.proofs.GapLemmas.{not_white, is_gap-kept}
+use Rattle.css_tokens.proofs.PrintedAgain.{IsShort, short-short}
+use Rattle.css_tokens.proofs.Rebuilt.{both}
+use Rattle.css_tokens.proofs.Runs.{run, same_inside}
+use Rattle.css_tokens.proofs.Spelling.{url_length, first_spells}
+use Rattle.css_tokens.proofs.Stays.{space_stays}
+use Rattle.css_tokens.proofs.TreeInduction.{Each, by_trees}
+use Rattle.css_tokens.proofs.ValueLemmas.{space, comment}
+use Rattle.css_tokens.proofs.Walk.{Chain, Keeps, kept_short, short_gap, chain_value}
+use Rattle.css_tokens.proofs.WritingLemmas.{words_all-cons, words_of-Block}
+
+-- a first token that is read
+abbrev pub ReadFirst : List ℕ → Word → Type 0
+ReadFirst t w = First t w × (is_refused w.kind ≡ false)
+
+-- reading is a chain of first tokens
+pub chain_of : (ws : List Word) (s : List ℕ) → ReadsTo (spelled ws ++ s) ws s → Chain ReadFirst ws s
+chain_of [] s h = tt
+chain_of (w ∷ ws) s h =
+    let e = append_assoc w.text (spelled ws) s in
+    let f : First (w.text ++ (spelled ws ++ s)) w = subst (λ t. First t w) e h.0 in
+    let g : ReadsTo (spelled ws ++ s) ws s = subst (λ t. ReadsTo t ws s) (ap (drop (length w.text)) e ∙ drop-append_seam w.text (spelled ws ++ s)) h.2 in
+    ((f, h.1), chain_of ws s g)
+
+pub reads_of : (ws : List Word) (s : List ℕ) → Chain ReadFirst ws s → ReadsTo (spelled ws ++ s) ws s
+reads_of [] s h = refl
+reads_of (w ∷ ws) s h =
+    let e = append_assoc w.text (spelled ws) s in
+    let f : First (spelled (w ∷ ws) ++ s) w = subst (λ t. First t w) (sym e) h.0.0 in
+    let g : ReadsTo (drop (length w.text) (spelled (w ∷ ws) ++ s)) ws s = subst (λ t. ReadsTo t ws s) (sym (ap (drop (length w.text)) e ∙ drop-append_seam w.text (spelled ws ++ s))) (reads_of ws s h.1) in
+    (f, h.0.1, g)
+
+spelled-append : (xs ys : List Word) → spelled (xs ++ ys) ≡ spelled xs ++ spelled ys
+spelled-append xs ys = flat_map-append (λ (w : Word). w.text) xs ys
+
+joined_text : (xs ys : List Word) (s : List ℕ) → spelled (xs ++ ys) ++ s ≡ spelled xs ++ (spelled ys ++ s)
+joined_text xs ys s = ap (λ t. t ++ s) (spelled-append xs ys) ∙ append_assoc (spelled xs) (spelled ys) s
+
+chain_left : (xs ys : List Word) (s : List ℕ) → Chain ReadFirst (xs ++ ys) s → Chain ReadFirst xs (spelled ys ++ s)
+chain_left [] ys s h = tt
+chain_left (x ∷ xs) ys s h = (subst (λ t. ReadFirst (x.text ++ t) x) (joined_text xs ys s) h.0, chain_left xs ys s h.1)
+
+chain_right : (xs ys : List Word) (s : List ℕ) → Chain ReadFirst (xs ++ ys) s → Chain ReadFirst ys s
+chain_right [] ys s h = h
+chain_right (x ∷ xs) ys s h = chain_right xs ys s h.1
+
+-- a reading splits
+pub reads_left : (xs ys : List Word) (s : List ℕ) → ReadsTo (spelled (xs ++ ys) ++ s) (xs ++ ys) s → ReadsTo (spelled xs ++ (spelled ys ++ s)) xs (spelled ys ++ s)
+reads_left xs ys s h = reads_of xs (spelled ys ++ s) (chain_left xs ys s (chain_of (xs ++ ys) s h))
+
+pub reads_right : (xs ys : List Word) (s : List ℕ) → ReadsTo (spelled (xs ++ ys) ++ s) (xs ++ ys) s → ReadsTo (spelled ys ++ s) ys s
+reads_right xs ys s h = reads_of ys s (chain_right xs ys s (chain_of (xs ++ ys) s h))
+
+pub each_spells : (t : List ℕ) (ws : List Word) (s : List ℕ) → ReadsTo t ws s → list_all (λ (w : Word). spells w.kind w.text) ws ≡ true
+each_spells t [] s h = refl
+each_spells t (w ∷ ws) s h = ap (λ b. b && list_all (λ (v : Word). spells v.kind v.text) ws) (first_spells t w h.0) ∙ each_spells (drop (length w.text) t) ws s h.2
+
+-- the Function `url(` stands before a quote
+nil_of : (l : List ℕ) → length l ≡ 0 → l ≡ []
+nil_of [] h = refl
+nil_of (x ∷ l) h = absurd (omega arith)
+
+never_url : (w : Word) (a : List ℕ) (u : AsUrl w a) → is_url w.text ≡ true → ⊥
+never_url w a u h =
+    let p = and_parts (is_url u.name) _ u.ruled in
+    let l : length u.inside ≡ 0 = omega (arith, url_length u.name p.0, url_length w.text h, length-append u.name u.inside, ap length u.whole) in
+    not_open w.kind (classes_of a) (subst (λ (t : List ℕ). ended (run state.UrlStart (classes_of t)) (classes_of a) ≡ Some w.kind) (nil_of u.inside l) (url_ended w a u))
+  where
+    not_open : (k : Kind) (after : List Class) → ended state.UrlStart after ≡ Some k → ⊥
+    not_open k after h = cc
+
+url_word : (w : Word) (a : List ℕ) → StaysFirst w a → is_url w.text ≡ true → (w.kind ≡ kind.Function) × Quotes a
+url_word w a f h =
+    elim (first_cases w a f) [
+      | inl t ↦ (
+        ap (λ (x : Kind × ℕ). x.0) (same_inside (w.kind, length w.text) (kind.Function, length w.text) (sym t.found ∙ url_found w.text a h)),
+        not-false (quote_follows (classes_of a)) (ap (λ b. b && not (quote_follows (classes_of a))) (sym h) ∙ t.ruled),
+      )
+      | inr u ↦ absurd (never_url w a u h)
+    ]
+
+-- what a block opens is closed within the value
+abbrev Closes : List Word → Type 0
+Closes [] = Unit {0}
+Closes (w ∷ ws) = (w.kind ≡ kind.Function → is_dark (classes_of (spelled ws)) ≡ true) × Closes ws
+
+any_more : (c d : List Class) → is_dark c ≡ true → is_dark (c ++ d) ≡ true
+any_more [] d h = cc
+any_more (x ∷ c) d h =
+    elim (cases_Bool (has white x)) [
+      | inl e ↦ let g : is_dark c ≡ true = rw e at h in rw e (any_more c d g)
+      | inr e ↦ rw e
+    ]
+
+any_behind : (c d : List Class) → is_dark d ≡ true → is_dark (c ++ d) ≡ true
+any_behind [] d h = h
+any_behind (x ∷ c) d h =
+    elim (cases_Bool (has white x)) [
+      | inl e ↦ rw e (any_behind c d h)
+      | inr e ↦ rw e
+    ]
+
+closes_more : (xs ys : List Word) → Closes xs → Closes ys → Closes (xs ++ ys)
+closes_more [] ys h k = k
+closes_more (x ∷ xs) ys h k = (
+  λ e. ap (λ t. is_dark (classes_of t)) (spelled-append xs ys) ∙ ap is_dark (map-append class_of (spelled xs) (spelled ys)) ∙ any_more (classes_of (spelled xs)) (classes_of (spelled ys)) (h.0 e),
+  closes_more xs ys h.1 k,
+)
+
+closing_dark : (a b : Bool) → is_dark (classes_of (cond a (codes "]") (cond b (codes "}") (codes ")")) ++ [])) ≡ true
+closing_dark true true = refl
+closing_dark true false = refl
+closing_dark false true = refl
+closing_dark false false = refl
+
+dark_end : (opening : Piece) (close : ℕ) → is_dark (classes_of (spelled (word_of (closing opening close) ∷ []))) ≡ true
+dark_end opening close = closing_dark (is_text opening.text (codes "[")) (is_text opening.text (codes "{"))
+
+abbrev ClosesFormed : Component → Type 0
+ClosesFormed c = is_formed c ≡ true → Closes (words_of c)
+
+single_closes : (p : Piece) → ClosesFormed (component.Single p)
+single_closes p h =
+    let f = both (not (opens p.kind)) _ (sym (is_formed-Single p) ∙ h) in
+    subst Closes (sym (words_of-Single p)) (λ e. absurd (opens_function p.kind f.0 e), tt)
+  where
+    opens_function : (k : Kind) → not (opens k) ≡ true → k ≡ kind.Function → ⊥
+    opens_function k h e = both_ways (not (opens k)) (ap (λ j. not (opens j)) e) h
+
+all_close : (cs : List Component) → Each ClosesFormed cs → all_formed cs ≡ true → Closes (words_all cs)
+all_close [] each h = tt
+all_close (c ∷ cs) each h =
+    let f = both (is_formed c) (all_formed cs) h in
+    subst Closes (sym (words_all-cons c cs)) (closes_more (words_of c) (words_all cs) (each.0 f.0) (all_close cs each.1 f.1))
+
+block_closes : (opening : Piece) (items : List Component) (close : ℕ) → Each ClosesFormed items → ClosesFormed (component.Block (record { opening = opening; items = items; close = close }))
+block_closes opening items close each h =
+    let b : Block = record { opening = opening; items = items; close = close } in
+    let f = both (opens opening.kind) (all_formed items) (sym (is_formed-Block b) ∙ h) in
+    let last : List Word = word_of (closing opening close) ∷ [] in
+    subst Closes (sym (words_of-Block b)) (
+      λ e. ap (λ t. is_dark (classes_of t)) (spelled-append (words_all items) last)
+          ∙ ap is_dark (map-append class_of (spelled (words_all items)) (spelled last))
+          ∙ any_behind (classes_of (spelled (words_all items))) (classes_of (spelled last)) (dark_end opening close),
+      closes_more (words_all items) last (all_close items each f.1) (λ e. cc, tt),
+    )
+
+each_closes : (cs : List Component) → Each ClosesFormed cs
+each_closes [] = tt
+each_closes (c ∷ cs) = (by_trees ClosesFormed single_closes block_closes c, each_closes cs)
+
+formed_closes : (v : List Component) → all_formed v ≡ true → Closes (words_all v)
+formed_closes v h = all_close v (each_closes v) h
+
+-- A word that is read within a value, before s: the quote behind a Function `url(` is the value's own.
+record InValue (s : List ℕ) (t : List ℕ) (w : Word) : Type 0 where
+  pub first : First t w
+  pub read : is_refused w.kind ≡ false
+  pub quote : is_url w.text ≡ true → (u : List ℕ) × (t ≡ w.text ++ (u ++ s)) × Quotes u
+
+in_value : (ws : List Word) (s : List ℕ) → Closes ws → Chain ReadFirst ws s → Chain (InValue s) ws s
+in_value [] s c h = tt
+in_value (w ∷ ws) s c h =
+    let here : InValue s (w.text ++ (spelled ws ++ s)) w = record {
+      first = h.0.0;
+      read = h.0.1;
+      quote = λ u. let k = url_word w (spelled ws ++ s) h.0.0 u in (spelled ws, refl, quotes_front (spelled ws) s (c.0 k.0) k.1);
+    } in
+    (here, in_value ws s c.1 h.1)
+
+-- The old text from here on and the new one are alike, and a quote that comes in the value's own part comes in the new one.
+record AlikeIn (s : List ℕ) (a b : List ℕ) : Type 0 where
+  pub alike : Alike a b
+  pub front : List ℕ
+  pub whole : a ≡ front ++ s
+  pub quote : Quotes front → Quotes b
+
+stops_alike : (a b : List ℕ) → is_stop (classes_of a) ≡ true → is_stop (classes_of b) ≡ true → Alike a b
+stops_alike a b h k = record { same = []; left = a; right = b; whole_left = refl; whole_right = refl; stop_left = h; stop_right = k }
+
+behind_alike : (t a b : List ℕ) → Alike a b → Alike (t ++ a) (t ++ b)
+behind_alike t a b h = record {
+  same = t ++ h.same;
+  left = h.left;
+  right = h.right;
+  whole_left = ap (λ x. t ++ x) h.whole_left ∙ sym (append_assoc t h.same h.left);
+  whole_right = ap (λ x. t ++ x) h.whole_right ∙ sym (append_assoc t h.same h.right);
+  stop_left = h.stop_left;
+  stop_right = h.stop_right;
+}
+
+abbrev StopsBefore : List ℕ → Word → Type 0
+StopsBefore b g = is_stop (classes_of (g.text ++ b)) ≡ true
+
+short_stops : (g : Word) (b : List ℕ) → is_gap g.kind ≡ true → IsShort g → StopsBefore b g
+short_stops g b e h = elim (short_gap g e h) [
+  | inl i ↦ subst (StopsBefore b) (sym i) refl
+  | inr i ↦ subst (StopsBefore b) (sym i) refl
+]
+
+-- a short gap before a quote is a space
+short_quotes : (g : Word) (b : List ℕ) → is_gap g.kind ≡ true → IsShort g → Quotes (g.text ++ b) → Quotes b
+short_quotes g b e h q = elim (short_gap g e h) [
+  | inl i ↦ let r : Quotes (space.text ++ b) = subst (λ (v : Word). Quotes (v.text ++ b)) i q in r
+  | inr i ↦ let r : Quotes (comment.text ++ b) = subst (λ (v : Word). Quotes (v.text ++ b)) i q in cc
+]
+
+white_quotes : (w y : Word) (b : List ℕ) → is_white w.kind ≡ true → Quotes b → Quotes ((cond (is_white w.kind) (short_word w) y).text ++ b)
+white_quotes w y b e q =
+    let i : (cond (is_white w.kind) (short_word w) y).text ≡ codes " " = ap (λ c. (cond c (short_word w) y).text) e ∙ ap (λ c. cond c (codes " ") (cond (is_gap w.kind) (codes "/**/") w.text)) e in
+    subst (λ (t : List ℕ). Quotes (t ++ b)) (sym i) q
+
+gap_short : (w : Word) → is_gap w.kind ≡ true → is_gap (short_word w).kind ≡ true
+gap_short w e = e
+
+module _ (s r : List ℕ) (stop_s : is_stop (classes_of s) ≡ true) (stop_r : is_stop (classes_of r) ≡ true) where
+  front_whole : (w : Word) (a : List ℕ) (f : List ℕ) → a ≡ f ++ s → w.text ++ a ≡ (w.text ++ f) ++ s
+  front_whole w a f e = ap (λ t. w.text ++ t) e ∙ sym (append_assoc w.text f s)
+
+  shorter : (w : Word) (a b : List ℕ) → is_gap w.kind ≡ true → InValue s (w.text ++ a) w → AlikeIn s a b → AlikeIn s (w.text ++ a) ((short_word w).text ++ b)
+  shorter w a b g f h = record {
+    alike = stops_alike (w.text ++ a) ((short_word w).text ++ b) (gap_stops w a g f.first) (short_stops (short_word w) b g (short-short w));
+    front = w.text ++ h.front;
+    whole = front_whole w a h.front h.whole;
+    quote = λ q. let p = gap_quotes w a h.front g f.first q in subst (λ (t : List ℕ). Quotes (t ++ b)) (sym (ap (λ c. cond c (codes " ") (cond (is_gap w.kind) (codes "/**/") w.text)) p.0)) (h.quote p.1);
+  }
+
+  merged : (w y : Word) (a b : List ℕ) → is_gap w.kind ≡ true → is_gap y.kind ≡ true → IsShort y → InValue s (w.text ++ a) w → AlikeIn s a (y.text ++ b) → AlikeIn s (w.text ++ a) ((cond (is_white w.kind) (short_word w) y).text ++ b)
+  merged w y a b g e i f h =
+      let k : Word = cond (is_white w.kind) (short_word w) y in
+      let k_gap : is_gap k.kind ≡ true = is_gap-kept (λ (v : Word). v.kind) (short_word w) y g e in
+      let k_short : IsShort k = kept_short (is_white w.kind) (short_word w) y (short-short w) i in
+      record {
+        alike = stops_alike (w.text ++ a) (k.text ++ b) (gap_stops w a g f.first) (short_stops k b k_gap k_short);
+        front = w.text ++ h.front;
+        whole = front_whole w a h.front h.whole;
+        quote = λ q. let p = gap_quotes w a h.front g f.first q in white_quotes w y b p.0 (short_quotes y b e i (h.quote p.1));
+      }
+
+  dropped : (w : Word) (a : List ℕ) → is_gap w.kind ≡ true → InValue s (w.text ++ a) w → AlikeIn s a r → AlikeIn s (w.text ++ a) r
+  dropped w a g f h = record {
+    alike = stops_alike (w.text ++ a) r (gap_stops w a g f.first) stop_r;
+    front = w.text ++ h.front;
+    whole = front_whole w a h.front h.whole;
+    quote = λ q. h.quote (gap_quotes w a h.front g f.first q).1;
+  }
+
+  solid_of : (k : Kind) → is_gap k ≡ false → is_solid k ≡ true
+  solid_of kind.White e = cc
+  solid_of kind.Comment e = cc
+  solid_of _ e = refl
+
+  own_quote : (w : Word) (a b : List ℕ) → InValue s (w.text ++ a) w → AlikeIn s a b → is_url w.text ≡ true → Quotes b
+  own_quote w a b f h u =
+      let p = f.quote u in
+      let e : a ≡ p.0 ++ s = append_cancel_left w.text a (p.0 ++ s) p.1 in
+      let i : p.0 ≡ h.front = append_cancel_right p.0 h.front s (sym e ∙ h.whole) in
+      h.quote (subst Quotes i p.2)
+
+  kept : (w : Word) (a b : List ℕ) → is_gap w.kind ≡ false → InValue s (w.text ++ a) w → AlikeIn s a b → ReadFirst (w.text ++ b) w
+  kept w a b g f h = (keeps w a b (solid_of w.kind g) f.first h.alike (λ u q. own_quote w a b f h u), f.read)
+
+  keeps_value : Keeps (InValue s) ReadFirst (AlikeIn s) s r
+  keeps_value = record {
+    end = record { alike = stops_alike s r stop_s stop_r; front = []; whole = refl; quote = λ q. cc };
+    behind = λ t a b h. record { alike = behind_alike t a b h.alike; front = t ++ h.front; whole = ap (λ x. t ++ x) h.whole ∙ sym (append_assoc t h.front s); quote = quotes_behind t h.front b h.quote };
+    shorter = shorter;
+    merged = merged;
+    dropped = dropped;
+    kept = kept;
+    space_first = λ w a g f. (space_stays (w.text ++ a) (dark_none w a f.0 (not_white w.kind g)), refl);
+    comment_first = λ a. (ended_mark (codes "/**/") kind.Comment refl refl a, refl);
+  }
+
+-- the printed text of a value reads as its words
+pub value_reads : (v : List Component) (s r : List ℕ) → all_formed v ≡ true → is_stop (classes_of s) ≡ true → is_stop (classes_of r) ≡ true → ReadsTo (spelled (words_all v) ++ s) (words_all v) s → ReadsTo (value_text v ++ r) (value_words v) r
+value_reads v s r h k l reads = reads_of (value_words v) r (chain_value (InValue s) ReadFirst (AlikeIn s) s r (keeps_value s r k l) v (in_value (words_all v) s (formed_closes v h) (chain_of (words_all v) s reads)))
