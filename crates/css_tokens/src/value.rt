@@ -129,3 +129,6 @@ pub fn printed_again()
     ensures starts { (v cs : List Component) (c : Component) → value_again v ≡ c ∷ cs → IsTrue (is_solid c) }
     ensures ends { (v cs : List Component) (c : Component) → value_again v ≡ cs ++ c ∷ [] → IsTrue (is_solid c) }
 {}
+
+#[cfg(test)]
+mod tests;
