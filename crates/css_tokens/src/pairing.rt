@@ -165,7 +165,7 @@ impl<'a> Nest<'a> {
     }
 }
 
-/// What `components` does, told from its answer.
+/// Pairs the brackets of the tokens, and says of each answer what it means.
 fn paired<'a>(
     alloc: Global,
     tokens: &[Token<'a>],
