@@ -1,5 +1,5 @@
 -- How closing tokens match opening ones (CSS Syntax 3, section 5), told by the tokens alone.
-use Rattle.std.specs.Prelude.{ℕ, ◌≡◌, ◌≤◌, List, [], ◌∷◌, ◌++◌, length, take, Option, Some, None, if◌then◌else◌, option_and_then, unwrap_or}
+use Rattle.std.specs.Prelude.{ℕ, ◌≡◌, ◌≤◌, List, [], ◌∷◌, ◌++◌, length, take, Option, Some, None, if◌then◌else◌, option_and_then, unwrap_or, Bool, true, ◌&&◌, nat_le, nat_lt}
 use Rattle.css_tokens.specs.Piece.{Piece}
 use Rattle.css_tokens.specs.Trees.{opens, closes, closing_text, is_text}
 
@@ -63,3 +63,9 @@ pub record IsUnclosed (ts : List Piece) (end at : ℕ) : Type 0 where
   pub unclosed : awaited ts ≡ Some (innermost ∷ outer)
   pub shallow : IsShallow ts
   pub place : at ≡ end
+
+-- do the places of the tokens rise, and is none greater than end?
+abbrev pub places_rise : List Piece → ℕ → Bool
+places_rise [] end = true
+places_rise (t ∷ []) end = nat_le t.at end
+places_rise (t ∷ u ∷ ts) end = nat_lt t.at u.at && places_rise (u ∷ ts) end

@@ -106,3 +106,6 @@ pub fn name_of<'a>(alloc: Global, token: &Token<'a>) -> Result<Text<'a>, OutOfMe
     let _ = alloc;
     Ok(Text::lent(name))
 }
+
+#[cfg(test)]
+mod tests;

@@ -1,6 +1,5 @@
-ghost use Rattle.std.specs.Prelude.{◌≡◌, ◌⊎◌, ◌≤◌, ◌<◌, ℕ, [], ◌∷◌, ◌++◌, All, IsTrue, false, IfOk, OnOk, IsErrOf, Some, None, length, true};
-ghost use Rattle.std.specs.List.{AllPairs};
-ghost use Rattle.css_tokens.specs.Pairing.{awaited_next, closed_by, IsPaired, IsMismatch, IsTooDeep, IsUnclosed};
+ghost use Rattle.std.specs.Prelude.{◌≡◌, ◌⊎◌, ◌≤◌, ℕ, [], ◌∷◌, ◌++◌, IsTrue, false, IfOk, OnOk, IsErrOf, Some, None, length, true};
+ghost use Rattle.css_tokens.specs.Pairing.{awaited_next, closed_by, IsPaired, IsMismatch, IsTooDeep, IsUnclosed, places_rise};
 ghost use Rattle.css_tokens.specs.Trees.{pieces_all, all_formed, opens, closes, closing_text};
 ghost use Rattle.css_tokens.specs.Refusals.{IsRefusal};
 ghost use Rattle.css_tokens.specs.Nests.{nest_pieces, nest_awaited, nest_formed, IsOneTooDeep};
@@ -166,7 +165,7 @@ impl<'a> Nest<'a> {
     }
 }
 
-/// What `components` does, told from its answer.
+/// Pairs the brackets of the tokens, and says of each answer what it means.
 fn paired<'a>(
     alloc: Global,
     tokens: &[Token<'a>],
@@ -200,8 +199,7 @@ pub fn components<'a>(
     tokens: &[Token<'a>],
     end: u32,
 ) -> Result<List<Component<'a>>, ComponentFault>
-    requires rise { AllPairs (λ a b. a.at < b.at) tokens.now }
-    requires within { All (λ t. t.at ≤ end) tokens.now }
+    requires { IsTrue (places_rise tokens.now end) }
     ensures paired { IfOk result (λ cs. (pieces_all cs ≡ tokens.now) × IsTrue (all_formed cs)) }
     ensures ok { OnOk result (IsPaired tokens.now) }
     ensures syntax { (o : ℕ) → IsErrOf result (ComponentFault.Syntax o) → IsMismatch tokens.now o ⊎ IsUnclosed tokens.now end o }
@@ -219,3 +217,6 @@ pub fn components<'a>(
 pub fn one_pairing()
     ensures { (a b : List Component) → pieces_all a ≡ pieces_all b → IsTrue (all_formed a) → IsTrue (all_formed b) → a ≡ b }
 {}
+
+#[cfg(test)]
+mod tests;

@@ -87,6 +87,7 @@ fn write_components(
     Ok(waiting)
 }
 
+/// Writes a component, a block with all that stands in it.
 #[cycle(write_components)]
 fn write_component(
     item: &Component,
@@ -101,6 +102,7 @@ fn write_component(
     }
 }
 
+/// Writes a block: its opening token, what stands in it, and the token that closes it.
 #[cycle(write_components)]
 fn write_block(block: &Block, pending: Pending, out: &mut List<u8>) -> Result<Pending, OutOfMemory>
     ensures { Writes pending (block_words block.now) out.old out.new result }
@@ -129,3 +131,6 @@ pub fn printed_again()
     ensures starts { (v cs : List Component) (c : Component) → value_again v ≡ c ∷ cs → IsTrue (is_solid c) }
     ensures ends { (v cs : List Component) (c : Component) → value_again v ≡ cs ++ c ∷ [] → IsTrue (is_solid c) }
 {}
+
+#[cfg(test)]
+mod tests;

@@ -1,0 +1,32 @@
+ghost use Rattle.std.specs.Prelude.{◌≢◌, []};
+
+use super::*;
+use std::alloc::Global;
+
+fn written(alloc: Global, name: &str) -> Result<List<u8>, OutOfMemory>
+    requires { name.now ≢ [] }
+{
+    let mut out = List::new(alloc);
+    write_name(name, &mut out)?;
+    Ok(out)
+}
+
+#[test]
+fn writes_names(rt: HostRuntime) -> Result<(), OutOfMemory> {
+    let alloc = rt.alloc();
+    assert_eq!(rt; written(alloc, "a")?.as_slice(), "a".as_bytes());
+    assert_eq!(rt; written(alloc, "-")?.as_slice(), "\\-".as_bytes());
+    assert_eq!(rt; written(alloc, "1a")?.as_slice(), "\\31 a".as_bytes());
+    assert_eq!(rt; written(alloc, "-1")?.as_slice(), "-\\31 ".as_bytes());
+    assert_eq!(rt; written(alloc, "--1")?.as_slice(), "--1".as_bytes());
+    assert_eq!(rt; written(alloc, "a b")?.as_slice(), "a\\ b".as_bytes());
+    assert_eq!(rt;
+        written(alloc, "a\u{1f}\u{7f}\u{feff}")?.as_slice(),
+        "a\\1f \\7f \\feff ".as_bytes()
+    );
+    assert_eq!(rt;
+        written(alloc, "\u{e9}_2")?.as_slice(),
+        "\u{e9}_2".as_bytes()
+    );
+    Ok(())
+}
