@@ -12,3 +12,8 @@ pub mod SelectorSpelling
 pub mod WritingLemmas
 pub mod Heads
 pub mod CutAgain
+pub mod FromSourceNames
+pub mod FromSourceParts
+pub mod FromSourceSelectors
+pub mod FromSourceDeclarations
+pub mod FromSourceRules
