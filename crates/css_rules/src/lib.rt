@@ -8,6 +8,7 @@ mod reader;
 mod refusal;
 pub mod selector;
 mod sheet;
+pub mod sheet_laws;
 
 pub use reader::RuleFault;
 pub use refusal::{Refusal, Sought};
