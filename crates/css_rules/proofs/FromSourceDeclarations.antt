@@ -1,15 +1,14 @@
 -- What a declaration that is not refused is read as is printable.
-use Rattle.std.proofs.Common.{◌≡◌, ℕ, List, [], ◌∷◌, ◌++◌, Bool, true, false, ◌&&◌, ◌||◌, not, refl, sym, ◌∙◌, ap, cond, Option, Some, None, is_some, flat_map}
+use Rattle.std.proofs.Common.{◌≡◌, ℕ, List, [], ◌∷◌, ◌++◌, Bool, true, false, not, refl, ◌∙◌, ap, Option, Some, None, flat_map}
 use Rattle.std.specs.Prelude.{if◌then◌else◌}
 use Rattle.std.specs.List.{list_all, list_any, AllByRecursion}
 use Rattle.std.specs.Option.{option_to_list}
-use Rattle.std.proofs.lemmas.Bool.{false≢true}
 use Rattle.css_tokens.specs.declared.component.Component.{Component}
 use Rattle.css_tokens.specs.Piece.{Piece}
 use Rattle.css_tokens.specs.PlainNames.{is_plain_name}
 use Rattle.css_tokens.specs.Trees.{is_formed, all_formed}
 use Rattle.css_rules.specs.declared.refusal.Refusal.{Refusal}
-use Rattle.css_rules.specs.declared.refusal.Refusal.TheVariants.{Syntax, Unbuilt}
+use Rattle.css_rules.specs.declared.refusal.Refusal.TheVariants.{Unbuilt}
 use Rattle.css_rules.specs.declared.refusal.Sought.TheVariants.{RevertLayer, RevertLayerOrUrl}
 use Rattle.css_rules.specs.declared.sheet.Declaration.{Declaration}
 use Rattle.css_rules.specs.Components.{head, is_ident, is_colon, is_bang, is_semicolon, is_custom}
@@ -60,7 +59,7 @@ trimmed-value cut f s = record {
   begun = trimmed-begins cut.front;
   bangless = none-any is_bang (trimmed cut.front) (all-trimmed (λ c. not (is_bang c)) cut.front f.unmarked);
   undivided = none-any is_semicolon (trimmed cut.front) (all-trimmed not_semicolon cut.front s.kept);
-  formed = all-trimmed is_formed cut.front f.kept
+  formed = all-trimmed is_formed cut.front f.kept;
 }
 
 marked-value : (b important : Bool) (v : List Component) → IsValue v → ReadsValue (if b then Some (v, important) else None)
@@ -92,7 +91,7 @@ made-printable at name v plain is fits none =
       bangless = is.bangless;
       undivided = is.undivided;
       formed = is.formed;
-      unsought = right-none (if unbuilt then Unbuilt at ∷ [] else []) sought none
+      unsought = right-none (if unbuilt then Unbuilt at ∷ [] else []) sought none;
     }
 
 declared-at : (at : ℕ) (name : Piece) (v : List Component × Bool) (b : Bool) → may_be_value (is_custom name.text) v.0 ≡ b → is_plain_name name.text ≡ true → IsValue v.0
@@ -136,22 +135,23 @@ declaration-printable at c cs f s none =
     let undivided = and-right (not_semicolon c) (list_all not_semicolon cs) s in
     named-at at c (declared_after (head c) (after_colon (trimmed_start cs))) (is_ident c) refl
     (λ is. after-printable at (head c) (after_colon (trimmed_start cs))
-        (sound-ident c (and-left (is_sound c) (list_all is_sound cs) f) is)
-        (after-colon is_formed (trimmed_start cs) (all-start is_formed cs formed))
-        (after-colon not_semicolon (trimmed_start cs) (all-start not_semicolon cs undivided)))
+    (sound-ident c (and-left (is_sound c) (list_all is_sound cs) f) is)
+    (after-colon is_formed (trimmed_start cs) (all-start is_formed cs formed))
+    (after-colon not_semicolon (trimmed_start cs) (all-start not_semicolon cs undivided)))
     none
 
 -- Items.
 
-not-rule : (b : Bool) (at : ℕ) (rest : List Refusal) → (if b then Unbuilt at ∷ [] else rest) ≡ [] → rest ≡ []
-not-rule true at rest e = absurd (cc e)
-not-rule false at rest e = e
+-- what stands in the place of a refusal
+pub unrefused : (b : Bool) (at : ℕ) (rest : List Refusal) → (if b then Unbuilt at ∷ [] else rest) ≡ [] → rest ≡ []
+unrefused true at rest e = absurd (cc e)
+unrefused false at rest e = e
 
 item-printable : (cs : List Component) → list_all is_sound cs ≡ true → list_all not_semicolon cs ≡ true → item_refusals cs ≡ [] → OfSome IsPrintableDeclaration (declaration_of cs)
 item-printable [] f s none = tt
 item-printable (c ∷ cs) f s none =
     declaration-printable (head c).at c cs f s
-    (not-rule (begins_rule (c ∷ cs)) (head c).at (declaration_refusals (head c).at (declaration_of (c ∷ cs))) none)
+    (unrefused (begins_rule (c ∷ cs)) (head c).at (declaration_refusals (head c).at (declaration_of (c ∷ cs))) none)
 
 pub each-append : {X : Type 0} (P : X → Type 0) (xs ys : List X) → AllByRecursion P xs → AllByRecursion P ys → AllByRecursion P (xs ++ ys)
 each-append P [] ys h k = k
@@ -172,8 +172,8 @@ each-items [] each none = tt
 each-items (cut ∷ cs) each none =
     each-append IsPrintableDeclaration (read_at cut) (flat_map read_at cs)
     (each-option (declaration_of (trimmed cut.front))
-        (item-printable (trimmed cut.front) (all-trimmed is_sound cut.front each.0.kept) (all-trimmed not_semicolon cut.front each.0.unmarked)
-        (left-none (item_at cut) (flat_map item_at cs) none)))
+    (item-printable (trimmed cut.front) (all-trimmed is_sound cut.front each.0.kept) (all-trimmed not_semicolon cut.front each.0.unmarked)
+    (left-none (item_at cut) (flat_map item_at cs) none)))
     (each-items cs each.1 (right-none (item_at cut) (flat_map item_at cs) none))
 
 pub block-printable : (block : List Component) → list_all is_sound block ≡ true → block_refusals block ≡ [] → AllByRecursion IsPrintableDeclaration (declarations_of block)

@@ -1,5 +1,5 @@
 -- What holds of each component of a list holds of those in its parts.
-use Rattle.std.proofs.Common.{◌≡◌, ℕ, List, [], ◌∷◌, ◌++◌, map, Bool, true, false, ◌&&◌, ◌||◌, not, refl, sym, ◌∙◌, ap, subst, cond, codes, inl, inr, Option, Some, None, MatchOption}
+use Rattle.std.proofs.Common.{◌≡◌, ℕ, List, [], ◌∷◌, ◌++◌, map, Bool, true, false, ◌&&◌, ◌||◌, not, refl, sym, ◌∙◌, ap, subst, cond, inl, inr, MatchOption}
 use Rattle.std.specs.List.{list_all, list_any, AllByRecursion}
 use Rattle.std.proofs.lemmas.Bool.{false≢true, cases_Bool}
 use Rattle.std.proofs.lemmas.List.{map-append}
@@ -11,7 +11,7 @@ use Rattle.css_tokens.specs.declared.component.Component.TheOpen.{Component-F, S
 use Rattle.css_tokens.specs.declared.component.Component.TheFolds.{fold-Component, fold_out-Component}
 use Rattle.css_tokens.specs.declared.kind.Kind.{Kind}
 use Rattle.css_tokens.specs.declared.kind.Kind.TheVariants as kinds
-use Rattle.css_tokens.specs.Piece.{Piece, Word, word_of}
+use Rattle.css_tokens.specs.Piece.{Piece, word_of}
 use Rattle.css_tokens.specs.PlainNames.{is_plain_name}
 use Rattle.css_tokens.specs.Trees.{pieces_of, pieces_all, words_all, closing, component_pieces, block_pieces, component_formed, block_formed, is_formed, all_formed, opens}
 use Rattle.css_rules.specs.Components.{Layer, head, inside, layer_head, layer_items, layer_is_single, is_ident, is_ident_kind, is_gap}
@@ -20,21 +20,21 @@ use Rattle.css_rules.specs.Printable.{begins_solid}
 use Rattle.css_rules.specs.ReadableSelectors.{is_spelled, is_spelled_kind}
 use Rattle.css_rules.proofs.CutLemmas.{cuts-unmarked, cuts-marked, trimmed_start-gap, trimmed_start-other}
 use Rattle.css_rules.proofs.CutAgain.{trimmed_end-solid}
-use Rattle.css_rules.proofs.FromSourceNames.{ident-plain}
+use Rattle.css_rules.proofs.FromSourceIdents.{ident-plain}
 use Rattle.css_rules.proofs.SelectorPlaces.{single-piece}
 use Rattle.css_rules.proofs.SelectorSpelling.{and-left, and-right, and-both}
 
 -- Trimmed lists.
+
+pub not-true : (b : Bool) → not b ≡ true → b ≡ false
+not-true true e = sym e
+not-true false e = refl
 
 pub none-any : (test : Component → Bool) (cs : List Component) → list_all (λ c. not (test c)) cs ≡ true → list_any test cs ≡ false
 none-any test [] e = refl
 none-any test (c ∷ cs) e =
     ap (λ b. b || list_any test cs) (not-true (test c) (and-left (not (test c)) (list_all (λ x. not (test x)) cs) e))
     ∙ none-any test cs (and-right (not (test c)) (list_all (λ x. not (test x)) cs) e)
-  where
-    not-true : (b : Bool) → not b ≡ true → b ≡ false
-    not-true true h = sym h
-    not-true false h = refl
 
 at-gap : (test : Component → Bool) (gap : Bool) (xs ys : List Component) → list_all test xs ≡ true → list_all test ys ≡ true → list_all test (cond gap xs ys) ≡ true
 at-gap test true xs ys e f = e
@@ -70,12 +70,14 @@ pub record IsPart (test mark : Component → Bool) (cut : Cut) : Type 0 where
 
 longer : (test mark : Component → Bool) (c : Component) (cs : List Cut) → test c ≡ true → mark c ≡ false → AllByRecursion (IsPart test mark) cs → AllByRecursion (IsPart test mark) (with_front c cs)
 longer test mark c [] kept unmarked each = tt
-longer test mark c (cut ∷ cs) kept unmarked each =
-    (record {
-        kept = and-both (test c) (list_all test cut.front) kept each.0.kept;
-        unmarked = and-both (not (mark c)) (list_all (λ x. not (mark x)) cut.front) (ap not unmarked) each.0.unmarked;
-        closed = each.0.closed }
-    , each.1)
+longer test mark c (cut ∷ cs) kept unmarked each = (
+  record {
+    kept = and-both (test c) (list_all test cut.front) kept each.0.kept;
+    unmarked = and-both (not (mark c)) (list_all (λ x. not (mark x)) cut.front) (ap not unmarked) each.0.unmarked;
+    closed = each.0.closed;
+  },
+  each.1,
+)
 
 pub parts-cuts : (test mark : Component → Bool) (cs : List Component) → list_all test cs ≡ true → AllByRecursion (IsPart test mark) (cuts mark cs)
 parts-cuts test mark [] e = (record { kept = refl; unmarked = refl; closed = tt }, tt)

@@ -1,6 +1,5 @@
 -- What a list of components without refusals is read as is printable.
-use Rattle.std.proofs.Common.{◌≡◌, ℕ, List, [], ◌∷◌, ◌++◌, Bool, true, false, refl, sym, ◌∙◌, ap, subst, cond, Option, Some, None, flat_map, MatchOption}
-use Rattle.std.specs.Prelude.{if◌then◌else◌}
+use Rattle.std.proofs.Common.{◌≡◌, ℕ, List, [], ◌∷◌, ◌++◌, true, false, refl, sym, ◌∙◌, ap, subst, Option, Some, None, flat_map, MatchOption}
 use Rattle.std.specs.List.{list_all, list_any, AllByRecursion}
 use Rattle.std.proofs.lemmas.List.{append-nil}
 use Rattle.std.proofs.lemmas.List.Concat.{flat_map-append}
@@ -8,13 +7,12 @@ use Rattle.std.proofs.lemmas.List.Folds.{flat_map-map}
 use Rattle.css_tokens.specs.declared.component.Component.{Component}
 use Rattle.css_tokens.specs.Trees.{all_formed, words_all}
 use Rattle.css_rules.specs.declared.refusal.Refusal.{Refusal}
-use Rattle.css_rules.specs.declared.refusal.Refusal.TheVariants.{Syntax, Unbuilt}
 use Rattle.css_rules.specs.declared.refusal.Sought.TheVariants.{ColonOrBracket, Ampersand}
 use Rattle.css_rules.specs.declared.sheet.Declaration.{Declaration}
 use Rattle.css_rules.specs.declared.sheet.Item.{Item}
 use Rattle.css_rules.specs.declared.sheet.Item as item
 use Rattle.css_rules.specs.declared.sheet.Style as style
-use Rattle.css_rules.specs.declared.sheet.Item.TheOpen.{Item-F, Style-F}
+use Rattle.css_rules.specs.declared.sheet.Item.TheOpen.{Item-F}
 use Rattle.css_rules.specs.declared.sheet.Item.TheFolds.{fold-Item, fold_out-Item}
 use Rattle.css_rules.specs.declared.sheet.Item.TheVariants.{outs-Style, outs-Plain}
 use Rattle.css_rules.specs.BareSelectors.{BareSelector, bare_list}
@@ -25,8 +23,8 @@ use Rattle.css_rules.specs.ReadableSelectors.{is_readable_list, is_spelled}
 use Rattle.css_rules.specs.Refusals.{sought_in}
 use Rattle.css_rules.specs.Runs.{Run, Contribution, item_runs, style_runs, runs_within, runs_of}
 use Rattle.css_rules.specs.Selectors.{list_of, list_faults}
-use Rattle.css_rules.specs.Sheets.{declarations_of, run_of, first_place, rule_of, rules_of, sheet_of, block_refusals, first_fault, prelude_refusals_by, prelude_refusals, begins_at_rule, rule_refusals_by, rule_refusals, sheet_refusals}
-use Rattle.css_rules.proofs.FromSourceDeclarations.{left-none, right-none, each-append, block-printable}
+use Rattle.css_rules.specs.Sheets.{declarations_of, run_of, first_place, rule_of, sheet_of, block_refusals, first_fault, prelude_refusals_by, prelude_refusals, begins_at_rule, rule_refusals_by, rule_refusals, sheet_refusals}
+use Rattle.css_rules.proofs.FromSourceDeclarations.{left-none, right-none, unrefused, each-append, block-printable}
 use Rattle.css_rules.proofs.FromSourceParts.{is_sound, all-sound, sound-spelled, sound-inside, IsPart, parts-cuts}
 use Rattle.css_rules.proofs.FromSourceSelectors.{list-not_nesting}
 use Rattle.css_rules.proofs.SelectorReadable.{readable-list}
@@ -85,12 +83,8 @@ prelude-by : (sought : List Refusal) (prelude : List Component) (end : ℕ) → 
 prelude-by (r ∷ rs) prelude end e = absurd (cc e)
 prelude-by [] prelude end e = record {
   plain = left-none (sought_in Ampersand prelude) (first_fault (list_faults prelude end)) e;
-  faultless = fault-none (list_faults prelude end) (right-none (sought_in Ampersand prelude) (first_fault (list_faults prelude end)) e)
+  faultless = fault-none (list_faults prelude end) (right-none (sought_in Ampersand prelude) (first_fault (list_faults prelude end)) e);
 }
-
-not-at_rule : (b : Bool) (at : ℕ) (rest : List Refusal) → (if b then Unbuilt at ∷ [] else rest) ≡ [] → rest ≡ []
-not-at_rule true at rest e = absurd (cc e)
-not-at_rule false at rest e = e
 
 marked-printable : (words prelude : List Component) (mark : Option Component) → list_all is_sound prelude ≡ true → MatchOption mark (Unit {0}) (λ c. is_sound c ≡ true)
     → rule_refusals_by words prelude mark ≡ [] → ArePrintable (flat_map at_top (rule_of prelude mark))
@@ -109,7 +103,7 @@ marked-printable words prelude (Some block) sound closed none =
 cut-printable : (cut : Cut) → IsPart is_sound is_braces cut → rule_refusals cut ≡ [] → ArePrintable (flat_map at_top (rule_of cut.front cut.mark))
 cut-printable cut part none =
     marked-printable (trimmed cut.front) cut.front cut.mark part.kept part.closed
-    (not-at_rule (begins_at_rule (trimmed cut.front)) (first_place (trimmed cut.front) 0) (rule_refusals_by (trimmed cut.front) cut.front cut.mark) none)
+    (unrefused (begins_at_rule (trimmed cut.front)) (first_place (trimmed cut.front) 0) (rule_refusals_by (trimmed cut.front) cut.front cut.mark) none)
 
 abbrev rule_at : Cut → List Item
 rule_at cut = rule_of cut.front cut.mark

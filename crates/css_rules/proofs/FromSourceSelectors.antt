@@ -1,5 +1,5 @@
 -- Where no `&` stands in a list, no selector that is read from it is a nesting one.
-use Rattle.std.proofs.Common.{◌≡◌, ℕ, List, [], ◌∷◌, ◌++◌, map, Bool, true, false, ◌&&◌, ◌||◌, not, refl, sym, ◌∙◌, ap, codes, find}
+use Rattle.std.proofs.Common.{◌≡◌, ℕ, List, [], ◌∷◌, map, Bool, true, false, ◌&&◌, ◌||◌, not, refl, sym, ◌∙◌, ap, codes, find}
 use Rattle.std.specs.Prelude.{drop, Option, Some, None, unwrap_or, if◌then◌else◌}
 use Rattle.std.specs.List.{filter_map, cons_option, list_all, list_any}
 use Rattle.std.proofs.lemmas.Bool.{false≢true}
@@ -10,7 +10,6 @@ use Rattle.css_tokens.specs.declared.component.Component.{Component, out-Compone
 use Rattle.css_tokens.specs.declared.component.Component.TheOpen.{Single, Block}
 use Rattle.css_tokens.specs.Piece.{Piece}
 use Rattle.css_tokens.specs.Trees.{pieces_of, pieces_all, is_text}
-use Rattle.css_rules.specs.declared.refusal.Refusal.{Refusal}
 use Rattle.css_rules.specs.declared.refusal.Sought.TheVariants.{Ampersand}
 use Rattle.css_rules.specs.declared.selector.Combinator.{Combinator}
 use Rattle.css_rules.specs.declared.selector.TypeName.{TypeName}
@@ -22,14 +21,14 @@ use Rattle.css_rules.specs.declared.selector.Compound.{Compound}
 use Rattle.css_rules.specs.declared.selector.Link.{Link}
 use Rattle.css_rules.specs.declared.selector.Selector.{Selector}
 use Rattle.css_rules.specs.declared.selector.sign.Sign.{Sign}
-use Rattle.css_rules.specs.declared.selector.sign.Sign.TheVariants.{Comment, White, Child, Next, Later, Name, Star, Dot, Id, Parent, Other}
+use Rattle.css_rules.specs.declared.selector.sign.Sign.TheVariants.{White, Child, Next, Later, Name, Star, Dot, Id, Parent, Other}
 use Rattle.css_rules.specs.BareSelectors.{bare_compound, bare_link, bare_selector, bare_list}
 use Rattle.css_rules.specs.Components.{Layer}
-use Rattle.css_rules.specs.Names.{is_ident}
 use Rattle.css_rules.specs.Printable.{is_parent, has_parent, is_nesting}
 use Rattle.css_rules.specs.Refusals.{is_ampersand, is_sought, unbuilt_at, sought_in}
 use Rattle.css_rules.specs.Selectors.{with_part, parts_of, compound_with, compound_of, stripped, white_before, sign_before, spaced, clean_signs, Runs, run_before, runs_of, with_link, links_of, selector_with, selector_at, first_place, selector_of, Member, empty_before, with_component, cut_at_commas, members_of, list_of}
-use Rattle.css_rules.specs.Signs.{kind_sign, id_of, open_sign, sign_of, place_of, is_comma}
+use Rattle.css_rules.specs.Signs.{kind_sign, open_sign, sign_of, place_of, is_comma}
+use Rattle.css_rules.proofs.FromSourceParts.{not-true}
 use Rattle.css_rules.proofs.SelectorPlaces.{single-piece}
 use Rattle.css_rules.proofs.SelectorSpelling.{and-left, and-right, and-both}
 
@@ -53,7 +52,7 @@ calm-delim false false false false false true at h = h
 calm-delim false false false false false false at h = refl
 
 calm-kind : (k : Kind) (text : List ℕ) (at : ℕ) → not (is_ampersand k text) ≡ true → calm (kind_sign k text at) ≡ true
-calm-kind kinds.Hash text at h = calm-id (drop 1 text) at (is_ident (drop 1 text))
+calm-kind kinds.Hash text at h = calm-id (drop 1 text) at _
 calm-kind kinds.Delim text at h = calm-delim (is_text text (codes ">")) (is_text text (codes "+")) (is_text text (codes "~")) (is_text text (codes "*")) (is_text text (codes ".")) (is_text text (codes "&")) at h
 calm-kind k text at h = refl
 
@@ -204,10 +203,6 @@ calm-selector at ws h =
     (calm-links runs.rest (and-right (list_all calm runs.first) (list_all calm_run runs.rest) fine))
 
 -- Without places.
-
-not-true : (b : Bool) → not b ≡ true → b ≡ false
-not-true true h = sym h
-not-true false h = refl
 
 or-both : (a b : Bool) → a ≡ false → b ≡ false → (a || b) ≡ false
 or-both a b h k = ap (λ x. x || b) h ∙ k

@@ -12,6 +12,7 @@ pub mod SelectorSpelling
 pub mod WritingLemmas
 pub mod Heads
 pub mod CutAgain
+pub mod FromSourceIdents
 pub mod FromSourceNames
 pub mod FromSourceParts
 pub mod FromSourceSelectors

@@ -8,8 +8,9 @@ mod reader;
 mod refusal;
 pub mod selector;
 mod sheet;
-pub mod sheet_laws;
+mod sheet_laws;
 
 pub use reader::RuleFault;
 pub use refusal::{Refusal, Sought};
 pub use sheet::{Declaration, Item, Sheet, Style};
+pub use sheet_laws::sheets_are_printable;

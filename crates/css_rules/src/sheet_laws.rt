@@ -7,8 +7,9 @@ ghost use Rattle.css_tokens.specs.declared.component.Component.{Component};
 ghost use Rattle.std.specs.List.{list_all};
 ghost use Rattle.std.specs.Prelude.{◌≡◌, List, [], IsTrue};
 
-/// What a list of components that nothing is refused in is read as is a sheet whose runs print as a text that reads as
-/// them again, where the list is well formed and its Idents spell Idents.
+/// What a list of components is read as is printable, where nothing in the list is refused, its components are well formed
+/// and its Idents spell Idents: each run is of one style rule, with selectors that have a spelling and no `&`, and each of
+/// its declarations, of which there is at least one, is written as it was read.
 pub fn sheets_are_printable()
     ensures { (cs : List Component) → sheet_refusals cs ≡ [] → IsTrue (all_formed cs) → IsTrue (list_all is_spelled (words_all cs)) → ArePrintable (runs_of (sheet_of cs)) }
 {}
