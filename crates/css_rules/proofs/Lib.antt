@@ -18,3 +18,9 @@ pub mod DeclarationAgain
 pub mod SheetRound
 pub mod PreludeAgain
 pub mod RulesAgain
+pub mod FromSourceIdents
+pub mod FromSourceNames
+pub mod FromSourceParts
+pub mod FromSourceSelectors
+pub mod FromSourceDeclarations
+pub mod FromSourceRules

@@ -8,7 +8,9 @@ mod reader;
 mod refusal;
 pub mod selector;
 mod sheet;
+mod sheet_laws;
 
 pub use reader::RuleFault;
 pub use refusal::{Refusal, Sought};
 pub use sheet::{Declaration, Item, Sheet, Style};
+pub use sheet_laws::sheets_are_printable;
