@@ -1,11 +1,12 @@
-ghost use Rattle.std.specs.Prelude.{ℕ, List, ◌∷◌, [], ◌++◌, ◌≡◌, true, false, codes};
+ghost use Rattle.std.specs.Prelude.{ℕ, List, ◌∷◌, [], ◌++◌, ◌≡◌, ◌≢◌, true, false, codes};
 ghost use Rattle.std.specs.List.{AllByRecursion};
 ghost use Rattle.css_tokens.specs.declared.class.Class.TheVariants as class;
 ghost use Rattle.css_tokens.specs.declared.kind.Kind.TheVariants as kind;
 ghost use Rattle.css_tokens.specs.Again.{StaysFirst, Alike, KeepsQuote, is_solid, word_from, marks, begins_none, after_ident};
 ghost use Rattle.css_tokens.specs.Characters.{name, white};
 ghost use Rattle.css_tokens.specs.Piece.{Word, spelled};
-ghost use Rattle.css_tokens.specs.Tokens.{Reads, ReadsTo, StopsAt, classes_of, is_url, quote_follows, spells};
+ghost use Rattle.css_tokens.specs.PlainNames.{is_plain_name};
+ghost use Rattle.css_tokens.specs.Tokens.{First, Reads, ReadsTo, StopsAt, classes_of, is_plain, is_url, quote_follows, spells};
 
 /// A text reads in at most one way, or has a fault at one place, and never both.
 pub fn one_reading()
@@ -29,4 +30,20 @@ pub fn words_again()
     ensures string { (u rest : List ℕ) → spells kind.String u ≡ true → StaysFirst (word_from kind.String u) rest }
     ensures function { (u rest : List ℕ) → spells kind.Function u ≡ true → is_url u ≡ false → StaysFirst (word_from kind.Function u) rest }
     ensures url { (u rest : List ℕ) → is_url u ≡ true → quote_follows (classes_of rest) ≡ true → StaysFirst (word_from kind.Function u) rest }
+{}
+
+/// The plain names are the Idents in ASCII without escapes, and `#` with one is a Hash. The first token of a text spells its kind.
+pub fn names_spell()
+    ensures ident { (n : List ℕ) → is_plain_name n ≡ true → spells kind.Ident n ≡ true }
+    ensures plain { (n : List ℕ) → is_plain n ≡ true → spells kind.Ident n ≡ true → is_plain_name n ≡ true }
+    ensures hash { (n : List ℕ) → is_plain_name n ≡ true → spells kind.Hash (codes "#" ++ n) ≡ true }
+    ensures first { (t : List ℕ) (w : Word) → First t w → spells w.kind w.text ≡ true }
+{}
+
+/// What stands next to a plain name: it begins with no digit, `.` or white space; one other than `--` stays an Ident before
+/// a `>` too; and a `+` stays a Delim before a `.` that begins no number.
+pub fn names_stay()
+    ensures begun { (n rest : List ℕ) → is_plain_name n ≡ true → begins_none (class.Digit ∷ class.Dot ∷ white) (n ++ rest) ≡ true }
+    ensures child { (n rest : List ℕ) → is_plain_name n ≡ true → n ≢ codes "--" → begins_none (name ++ class.OpenParen ∷ []) rest ≡ true → StaysFirst (word_from kind.Ident n) rest }
+    ensures plus_dot { (rest : List ℕ) → begins_none (class.Digit ∷ []) rest ≡ true → StaysFirst (word_from kind.Delim (codes "+")) (codes "." ++ rest) }
 {}
