@@ -16,7 +16,7 @@ use Rattle.css_rules.specs.declared.selector.Simple.TheVariants as simples
 use Rattle.css_rules.specs.declared.selector.Compound.{Compound}
 use Rattle.css_rules.specs.declared.selector.sign.Sign.{Sign}
 use Rattle.css_rules.specs.declared.selector.sign.Sign.TheVariants.{White, Child, Next, Later, Name, Star, Dot, Id, Parent, Other}
-use Rattle.css_rules.specs.Names.{is_ident}
+use Rattle.css_tokens.specs.PlainNames.{is_plain_name}
 use Rattle.css_rules.specs.Signs.{is_comma_kind}
 use Rattle.css_rules.specs.Selectors.{parts_of, compound_with, compound_of, stripped, white_before, spaced, clean_signs, Runs, cut_by, run_before, runs_of, links_of, selector_of_runs, list_of, list_faults}
 use Rattle.css_rules.specs.BareSelectors.{BareCompound, BareSelector, bare_list}
@@ -65,7 +65,7 @@ signs-id n false e = absurd (false≢true e)
 
 signs-simple : (s : Simple) → is_readable_simple s ≡ true → map word_sign (simple_words s) ≡ simple_signs s
 signs-simple (simples.Class n) h = refl
-signs-simple (simples.Id n) h = signs-id n (is_ident n) h
+signs-simple (simples.Id n) h = signs-id n (is_plain_name n) h
 signs-simple simples.Parent h = refl
 
 signs-simples : (ss : List Simple) → list_all is_readable_simple ss ≡ true → map word_sign (flat_map simple_words ss) ≡ part_signs ss

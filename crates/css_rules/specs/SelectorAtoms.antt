@@ -8,7 +8,7 @@ use Rattle.css_rules.specs.declared.selector.TypeName.TheVariants as types
 use Rattle.css_rules.specs.declared.selector.Simple.{Simple}
 use Rattle.css_rules.specs.declared.selector.Simple.TheVariants as simples
 use Rattle.css_rules.specs.BareSelectors.{BareCompound, BareSelector}
-use Rattle.css_rules.specs.Names.{is_ident}
+use Rattle.css_tokens.specs.PlainNames.{is_plain_name}
 use Rattle.css_rules.specs.SelectorTexts.{compound_text, ends_in_dashes}
 use Rattle.css_rules.specs.SelectorWords as words
 
@@ -80,8 +80,8 @@ list_atoms (b ∷ bs) = selector_atoms b ++ more_atoms bs
 
 -- Names spell Idents.
 abbrev pub is_spelled_atom : Atom → Bool
-is_spelled_atom (name n) = is_ident n
-is_spelled_atom (hash n) = is_ident n
+is_spelled_atom (name n) = is_plain_name n
+is_spelled_atom (hash n) = is_plain_name n
 is_spelled_atom dot = true
 is_spelled_atom star = true
 is_spelled_atom amp = true
