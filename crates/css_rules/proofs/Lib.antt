@@ -8,5 +8,6 @@ pub mod SelectorNeighbours
 pub mod SelectorPlaces
 pub mod SelectorReadable
 pub mod SelectorReading
+pub mod SelectorReads
 pub mod SelectorSpelling
 pub mod WritingLemmas

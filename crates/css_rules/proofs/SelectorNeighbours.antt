@@ -344,7 +344,7 @@ more-tail : (bs : List BareSelector) → list_all is_readable_selector bs ≡ tr
 more-tail [] g e = refl
 more-tail (b ∷ bs) g e = selector-behind comma b (more_atoms bs) leads-comma (and-left (is_readable_selector b) (list_all is_readable_selector bs) g) (more-tail bs (and-right (is_readable_selector b) (list_all is_readable_selector bs) g))
 
-without-first : (a : Atom) (us : List Atom) → are_neighbours (a ∷ us) ≡ true → are_neighbours us ≡ true
+pub without-first : (a : Atom) (us : List Atom) → are_neighbours (a ∷ us) ≡ true → are_neighbours us ≡ true
 without-first a [] h = refl
 without-first a (b ∷ us) h = and-right (may_follow a b) (are_neighbours (b ∷ us)) h
 

@@ -8,9 +8,9 @@ use Rattle.css_tokens.specs.declared.kind.Kind.{Kind}
 use Rattle.css_tokens.specs.declared.kind.Kind.TheVariants as kind
 use Rattle.css_tokens.specs.declared.machine.State.{State}
 use Rattle.css_tokens.specs.declared.machine.State.TheVariants as state
-use Rattle.css_tokens.specs.Again.{StaysFirst, word_from, begins_none}
+use Rattle.css_tokens.specs.Again.{StaysFirst, word_from, begins_none, after_name, digit, digit_or_dot}
 use Rattle.css_tokens.specs.Characters.{class_of, has, is_class, name, name_start, white}
-use Rattle.css_tokens.specs.Kinds.{begins, is_kind, kind_of, table}
+use Rattle.css_tokens.specs.Kinds.{begins, starts, is_kind, kind_of, table}
 use Rattle.css_tokens.specs.Machine.{next, ended}
 use Rattle.css_tokens.specs.PlainNames.{is_plain, is_plain_start, is_plain_after_dash, is_plain_name}
 use Rattle.css_tokens.specs.Tokens.{classes_of, names, spells, is_url, quote_follows}
@@ -387,10 +387,36 @@ name_begun b bs h = elim (cases_Bool (eqb b 45)) [
       ap₂ ◌||◌ (minus-class b l ∙ d) (start-class b l ∙ p.0)
 ]
 
--- no digit, `.` or white space
-pub plain_begins : (n rest : List ℕ) → is_plain_name n ≡ true → begins_none (class.Digit ∷ class.Dot ∷ white) (n ++ rest) ≡ true
+abbrev begun_by : List ℕ → Class → Bool
+begun_by t c = starts (classes_of t) c
+
+plain_begins : (n rest : List ℕ) → is_plain_name n ≡ true → begins_none (class.Digit ∷ class.Dot ∷ white) (n ++ rest) ≡ true
 plain_begins [] rest h = absurd (false≢true h)
 plain_begins (b ∷ bs) rest h = set_apart (class_of b) (classes_of (bs ++ rest)) (name_begun b bs h)
+
+none_digit : (a b c d : Bool) → not (a || (b || (c || (d || false)))) ≡ true → not (a || false) ≡ true
+none_digit false b c d h = refl
+none_digit true b c d h = absurd (false≢true h)
+
+none_dot : (a b c d : Bool) → not (a || (b || (c || (d || false)))) ≡ true → not (a || (b || false)) ≡ true
+none_dot false false c d h = refl
+none_dot false true c d h = absurd (false≢true h)
+none_dot true b c d h = absurd (false≢true h)
+
+none_white : (a b c d : Bool) → not (a || (b || (c || (d || false)))) ≡ true → not (c || (d || false)) ≡ true
+none_white false false c d h = h
+none_white false true c d h = absurd (false≢true h)
+none_white true b c d h = absurd (false≢true h)
+
+-- no digit, no `.` and no white space
+pub plain_digit : (n rest : List ℕ) → is_plain_name n ≡ true → begins_none digit (n ++ rest) ≡ true
+plain_digit n rest h = let t = n ++ rest in none_digit (begun_by t class.Digit) (begun_by t class.Dot) (begun_by t class.Blank) (begun_by t class.Newline) (plain_begins n rest h)
+
+pub plain_dot : (n rest : List ℕ) → is_plain_name n ≡ true → begins_none digit_or_dot (n ++ rest) ≡ true
+plain_dot n rest h = let t = n ++ rest in none_dot (begun_by t class.Digit) (begun_by t class.Dot) (begun_by t class.Blank) (begun_by t class.Newline) (plain_begins n rest h)
+
+pub plain_white : (n rest : List ℕ) → is_plain_name n ≡ true → begins_none white (n ++ rest) ≡ true
+plain_white n rest h = let t = n ++ rest in none_white (begun_by t class.Digit) (begun_by t class.Dot) (begun_by t class.Blank) (begun_by t class.Newline) (plain_begins n rest h)
 
 -- A plain name other than `--` before a `>`.
 
@@ -443,9 +469,6 @@ plain_run (b ∷ bs) h f =
           start_run state.Start b bs start_name p.0 p.1
     ]
 
-abbrev after_name : List Class
-after_name = name ++ class.OpenParen ∷ []
-
 name_dies : dies_at state.Name after_name
 name_dies class.Exponent h = cc
 name_dies class.Letter h = cc
@@ -473,7 +496,7 @@ point_none (x ∷ t) h =
     longest_in-step state.Point x t
     ∙ ap (λ o. one_more o None) (ap (λ s. longest_in s t) (point_dies x (begun (class.Digit ∷ []) x t h)) ∙ longest_in-dead t)
 
-pub plus_dot_stays : (rest : List ℕ) → begins_none (class.Digit ∷ []) rest ≡ true → StaysFirst (word_from kind.Delim (codes "+")) (codes "." ++ rest)
+pub plus_dot_stays : (rest : List ℕ) → begins_none digit rest ≡ true → StaysFirst (word_from kind.Delim (codes "+")) (codes "." ++ rest)
 plus_dot_stays rest h =
     let r = codes "." ++ rest in
     by_table (word_from kind.Delim (codes "+")) r (record {

@@ -1,8 +1,7 @@
 ghost use Rattle.std.specs.Prelude.{ℕ, List, ◌∷◌, [], ◌++◌, ◌≡◌, ◌≢◌, true, false, codes};
 ghost use Rattle.std.specs.List.{AllByRecursion};
-ghost use Rattle.css_tokens.specs.declared.class.Class.TheVariants as class;
 ghost use Rattle.css_tokens.specs.declared.kind.Kind.TheVariants as kind;
-ghost use Rattle.css_tokens.specs.Again.{StaysFirst, Alike, KeepsQuote, is_solid, word_from, marks, begins_none, after_ident};
+ghost use Rattle.css_tokens.specs.Again.{StaysFirst, Alike, KeepsQuote, is_solid, word_from, marks, begins_none, after_ident, after_name, digit, digit_or_dot};
 ghost use Rattle.css_tokens.specs.Characters.{name, white};
 ghost use Rattle.css_tokens.specs.Piece.{Word, spelled};
 ghost use Rattle.css_tokens.specs.PlainNames.{is_plain_name};
@@ -21,8 +20,8 @@ pub fn words_again()
     ensures keeps { (w : Word) (a b : List ℕ) → is_solid w.kind ≡ true → StaysFirst w a → Alike a b → (is_url w.text ≡ true → KeepsQuote a b) → StaysFirst w b }
     ensures composes { (xs ys : List Word) (s r : List ℕ) → ReadsTo (spelled xs ++ s) xs s → ReadsTo s ys r → ReadsTo (spelled xs ++ s) (xs ++ ys) r }
     ensures marks { AllByRecursion (λ w. (rest : List ℕ) → StaysFirst w rest) marks }
-    ensures dot { (rest : List ℕ) → begins_none (class.Digit ∷ []) rest ≡ true → StaysFirst (word_from kind.Delim (codes ".")) rest }
-    ensures plus { (rest : List ℕ) → begins_none (class.Digit ∷ class.Dot ∷ []) rest ≡ true → StaysFirst (word_from kind.Delim (codes "+")) rest }
+    ensures dot { (rest : List ℕ) → begins_none digit rest ≡ true → StaysFirst (word_from kind.Delim (codes ".")) rest }
+    ensures plus { (rest : List ℕ) → begins_none digit_or_dot rest ≡ true → StaysFirst (word_from kind.Delim (codes "+")) rest }
     ensures space { (rest : List ℕ) → begins_none white rest ≡ true → StaysFirst (word_from kind.White (codes " ")) rest }
     ensures ident { (u rest : List ℕ) → spells kind.Ident u ≡ true → begins_none after_ident rest ≡ true → StaysFirst (word_from kind.Ident u) rest }
     ensures hash { (u rest : List ℕ) → spells kind.Hash u ≡ true → begins_none name rest ≡ true → StaysFirst (word_from kind.Hash u) rest }
@@ -43,7 +42,9 @@ pub fn names_spell()
 /// What stands next to a plain name: it begins with no digit, `.` or white space; one other than `--` stays an Ident before
 /// a `>` too; and a `+` stays a Delim before a `.` that begins no number.
 pub fn names_stay()
-    ensures begun { (n rest : List ℕ) → is_plain_name n ≡ true → begins_none (class.Digit ∷ class.Dot ∷ white) (n ++ rest) ≡ true }
-    ensures child { (n rest : List ℕ) → is_plain_name n ≡ true → n ≢ codes "--" → begins_none (name ++ class.OpenParen ∷ []) rest ≡ true → StaysFirst (word_from kind.Ident n) rest }
-    ensures plus_dot { (rest : List ℕ) → begins_none (class.Digit ∷ []) rest ≡ true → StaysFirst (word_from kind.Delim (codes "+")) (codes "." ++ rest) }
+    ensures digit { (n rest : List ℕ) → is_plain_name n ≡ true → begins_none digit (n ++ rest) ≡ true }
+    ensures dot { (n rest : List ℕ) → is_plain_name n ≡ true → begins_none digit_or_dot (n ++ rest) ≡ true }
+    ensures white { (n rest : List ℕ) → is_plain_name n ≡ true → begins_none white (n ++ rest) ≡ true }
+    ensures child { (n rest : List ℕ) → is_plain_name n ≡ true → n ≢ codes "--" → begins_none after_name rest ≡ true → StaysFirst (word_from kind.Ident n) rest }
+    ensures plus_dot { (rest : List ℕ) → begins_none digit rest ≡ true → StaysFirst (word_from kind.Delim (codes "+")) (codes "." ++ rest) }
 {}

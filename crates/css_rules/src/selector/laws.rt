@@ -5,10 +5,13 @@ ghost use Rattle.css_rules.specs.SelectorTexts.{list_text};
 ghost use Rattle.css_rules.specs.SelectorWords.{list_again};
 ghost use Rattle.css_rules.specs.Selectors.{list_faults, list_of};
 ghost use Rattle.css_tokens.specs.Piece.{spelled};
+ghost use Rattle.css_tokens.specs.Tokens.{ReadsTo};
 ghost use Rattle.css_tokens.specs.Trees.{all_formed, words_all};
 ghost use Rattle.css_tokens.specs.declared.component.Component.{Component};
 ghost use Rattle.std.specs.List.{list_all};
-ghost use Rattle.std.specs.Prelude.{◌≡◌, ℕ, List, [], map, IsTrue};
+ghost use Rattle.std.specs.Prelude.{◌≡◌, ◌++◌, ℕ, List, [], codes, map, IsTrue};
+
+use css_tokens::{names_spell, names_stay, words_again};
 
 /// The components that a list's text is made of spell that text, are well formed, and are read as that list again, also
 /// where they stand at other places; and what a list without faults is read as can be written so.
@@ -26,3 +29,12 @@ pub fn selector_words_are_neighbours()
     ensures neighbours { (bs : List BareSelector) → IsTrue (is_readable_list bs) → IsTrue (are_neighbours (list_atoms bs)) }
     ensures names { (bs : List BareSelector) → IsTrue (is_readable_list bs) → IsTrue (list_all is_spelled_atom (list_atoms bs)) }
 {}
+
+/// The text of a list before a block reads as its words.
+pub fn selector_text_reads()
+    ensures { (bs : List BareSelector) (rest : List ℕ) → IsTrue (is_readable_list bs) → ReadsTo (list_text bs ++ (codes "{" ++ rest)) (words_all (list_again bs)) (codes "{" ++ rest) }
+{
+    words_again();
+    names_spell();
+    names_stay();
+}
