@@ -15,6 +15,7 @@ use Rattle.css_rules.specs.declared.selector.Simple.TheVariants as simples
 use Rattle.std.proofs.Common.{◌≤◌, ◌-◌, suc, length, drop, arith}
 use Rattle.std.specs.Prelude.{nat_eq}
 use lib.Pointwise.{pointwise}
+use Rattle.css_tokens.specs.NameText.{name_text}
 use Rattle.css_tokens.specs.PlainNames.{is_plain_name}
 use Rattle.css_rules.specs.BareSelectors.{BareCompound, BareSelector}
 use Rattle.css_rules.specs.ReadableSelectors.{is_readable_type, is_readable_simple, has_type, has_simples, is_readable_compound, is_readable_selector, is_readable_list}
@@ -113,7 +114,7 @@ tail_ok d (amp ∷ us) = false
 
 -- the last atom of a text
 abbrev Ends : Atom → List ℕ → Type 0
-Ends (name n) text = (front : List ℕ) × (text ≡ front ++ n)
+Ends (name n) text = (front : List ℕ) × (text ≡ front ++ name_text n)
 Ends (hash n) text = Unit {0}
 Ends star text = Unit {0}
 Ends amp text = Unit {0}
@@ -130,10 +131,10 @@ unclear true false c f h = absurd (false≢true (f refl))
 unclear false true c f h = absurd (false≢true h)
 unclear false false c f h = h
 
-tail-name : (n front : List ℕ) (rest : List Atom) → tail_ok (ends (front ++ n)) rest ≡ true → are_neighbours (name n ∷ rest) ≡ true
+tail-name : (n front : List ℕ) (rest : List Atom) → tail_ok (ends (front ++ name_text n)) rest ≡ true → are_neighbours (name n ∷ rest) ≡ true
 tail-name n front [] h = refl
 tail-name n front (space ∷ us) h = h
-tail-name n front (greater ∷ us) h = unclear (ends n) (ends (front ++ n)) (are_neighbours (greater ∷ us)) (ends-behind front n) h
+tail-name n front (greater ∷ us) h = unclear (ends (name_text n)) (ends (front ++ name_text n)) (are_neighbours (greater ∷ us)) (ends-behind front (name_text n)) h
 tail-name n front (plus ∷ us) h = h
 tail-name n front (tilde ∷ us) h = h
 tail-name n front (comma ∷ us) h = h
@@ -243,10 +244,10 @@ parts-behind : (a : Atom) (text : List ℕ) (ss : List Simple) (rest : List Atom
 parts-behind a text [] rest e h = tail-any a text rest e (ap (λ (xs : List ℕ). tail_ok (ends xs) rest) (sym (append-nil text)) ∙ h)
 parts-behind a text (simples.Class n ∷ ss) rest e h =
     and-both (may_follow a dot) (are_neighbours (dot ∷ name n ∷ (part_atoms ss ++ rest))) (dot-behind a text e)
-    (parts-behind (name n) (text ++ (codes "." ++ n)) ss rest (text ++ codes ".", sym (append_assoc text (codes ".") n)) (ap (λ (xs : List ℕ). tail_ok (ends xs) rest) (append_assoc text (codes "." ++ n) (part_text ss)) ∙ h))
+    (parts-behind (name n) (text ++ (codes "." ++ name_text n)) ss rest (text ++ codes ".", sym (append_assoc text (codes ".") (name_text n))) (ap (λ (xs : List ℕ). tail_ok (ends xs) rest) (append_assoc text (codes "." ++ name_text n) (part_text ss)) ∙ h))
 parts-behind a text (simples.Id n ∷ ss) rest e h =
     and-both (may_follow a (hash n)) (are_neighbours (hash n ∷ (part_atoms ss ++ rest))) (hash-behind n a text e)
-    (parts-behind (hash n) (text ++ (codes "#" ++ n)) ss rest tt (ap (λ (xs : List ℕ). tail_ok (ends xs) rest) (append_assoc text (codes "#" ++ n) (part_text ss)) ∙ h))
+    (parts-behind (hash n) (text ++ (codes "#" ++ name_text n)) ss rest tt (ap (λ (xs : List ℕ). tail_ok (ends xs) rest) (append_assoc text (codes "#" ++ name_text n) (part_text ss)) ∙ h))
 parts-behind a text (simples.Parent ∷ ss) rest e h =
     and-both (may_follow a amp) (are_neighbours (amp ∷ (part_atoms ss ++ rest))) (amp-behind a text e)
     (parts-behind amp (text ++ codes "&") ss rest tt (ap (λ (xs : List ℕ). tail_ok (ends xs) rest) (append_assoc text (codes "&") (part_text ss)) ∙ h))
@@ -260,10 +261,10 @@ untyped-behind : (a : Atom) (ss : List Simple) (rest : List Atom) → Leads a �
 untyped-behind a [] rest l g h = absurd (false≢true g)
 untyped-behind a (simples.Class n ∷ ss) rest l g h =
     and-both (may_follow a dot) (are_neighbours (dot ∷ name n ∷ (part_atoms ss ++ rest))) (l dot refl)
-    (parts-behind (name n) (codes "." ++ n) ss rest (codes ".", refl) h)
+    (parts-behind (name n) (codes "." ++ name_text n) ss rest (codes ".", refl) h)
 untyped-behind a (simples.Id n ∷ ss) rest l g h =
     and-both (may_follow a (hash n)) (are_neighbours (hash n ∷ (part_atoms ss ++ rest))) (l (hash n) refl)
-    (parts-behind (hash n) (codes "#" ++ n) ss rest tt h)
+    (parts-behind (hash n) (codes "#" ++ name_text n) ss rest tt h)
 untyped-behind a (simples.Parent ∷ ss) rest l g h =
     and-both (may_follow a amp) (are_neighbours (amp ∷ (part_atoms ss ++ rest))) (l amp refl)
     (parts-behind amp (codes "&") ss rest tt h)
@@ -271,7 +272,7 @@ untyped-behind a (simples.Parent ∷ ss) rest l g h =
 typed-behind : (a : Atom) (kind : TypeName) (ss : List Simple) (rest : List Atom) → Leads a → (has_type kind || has_simples ss) ≡ true → tail_ok (ends (type_text kind ++ part_text ss)) rest ≡ true → are_neighbours (a ∷ ((type_atoms kind ++ part_atoms ss) ++ rest)) ≡ true
 typed-behind a types.None ss rest l g h = untyped-behind a ss rest l g h
 typed-behind a types.Universal ss rest l g h = and-both (may_follow a star) (are_neighbours (star ∷ (part_atoms ss ++ rest))) (l star refl) (parts-behind star (codes "*") ss rest tt h)
-typed-behind a (types.Name n) ss rest l g h = and-both (may_follow a (name n)) (are_neighbours (name n ∷ (part_atoms ss ++ rest))) (l (name n) refl) (parts-behind (name n) n ss rest ([], refl) h)
+typed-behind a (types.Name n) ss rest l g h = and-both (may_follow a (name n)) (are_neighbours (name n ∷ (part_atoms ss ++ rest))) (l (name n) refl) (parts-behind (name n) (name_text n) ss rest ([], refl) h)
 
 compound-behind : (a : Atom) (k : BareCompound) (rest : List Atom) → Leads a → is_readable_compound k ≡ true → tail_ok (ends (compound_text k)) rest ≡ true → are_neighbours (a ∷ (compound_atoms k ++ rest)) ≡ true
 compound-behind a k rest l g h = typed-behind a k.kind k.simples rest l (and-left (has_type k.kind || has_simples k.simples) (is_readable_type k.kind && list_all is_readable_simple k.simples) g) h

@@ -11,7 +11,7 @@ use Rattle.css_tokens.specs.PlainNames.{is_plain_name}
 use Rattle.css_tokens.specs.Tokens.{First, ReadsTo, is_refused, spells}
 use Rattle.css_tokens.specs.Trees.{words_all}
 use Rattle.css_rules.specs.BareSelectors.{BareSelector}
-use Rattle.css_rules.specs.Names.{name_text}
+use Rattle.css_tokens.specs.NameText.{name_text}
 use Rattle.css_rules.specs.ReadableSelectors.{is_readable_list}
 use Rattle.css_rules.specs.SelectorAtoms.{Atom, name, hash, dot, star, amp, space, greater, plus, tilde, comma, atom_word, list_atoms, is_spelled_atom, may_follow, are_neighbours}
 use Rattle.css_rules.specs.SelectorTexts.{ends_in_dashes, list_text}

@@ -11,7 +11,7 @@ ghost use Rattle.css_tokens.specs.declared.component.Component.{Component};
 ghost use Rattle.std.specs.List.{list_all};
 ghost use Rattle.std.specs.Prelude.{◌≡◌, ◌++◌, ℕ, List, [], codes, map, IsTrue};
 
-use css_tokens::{names_spell, names_stay, words_again};
+use css_tokens::{names_spell, names_stay, plain_name, words_again};
 
 /// The components that a list's text is made of spell that text, are well formed, and are read as that list again, also
 /// where they stand at other places; and what a list without faults is read as can be written so.
@@ -21,7 +21,9 @@ pub fn selectors_are_read_again()
     ensures sound { (bs : List BareSelector) (cs : List Component) (end : ℕ) → IsTrue (is_readable_list bs) → words_all cs ≡ words_all (list_again bs) → list_faults cs end ≡ [] }
     ensures same { (bs : List BareSelector) (cs : List Component) → IsTrue (is_readable_list bs) → words_all cs ≡ words_all (list_again bs) → bare_list (list_of cs) ≡ bs }
     ensures readable { (cs : List Component) (end : ℕ) → IsTrue (list_all is_spelled (words_all cs)) → list_faults cs end ≡ [] → IsTrue (is_readable_list (bare_list (list_of cs))) }
-{}
+{
+    plain_name();
+}
 
 /// Which words stand next to each other in a list's text: each may stand behind the one before it, and names spell Idents.
 pub fn selector_words_are_neighbours()
@@ -37,4 +39,5 @@ pub fn selector_text_reads()
     words_again();
     names_spell();
     names_stay();
+    plain_name();
 }

@@ -1,4 +1,3 @@
-use Rattle.std.proofs.Common.{refl}
 use Rattle.css_rules.proofs.SelectorReads.{list_reads}
 use Rattle.css_rules.proofs.selector.laws.selector_text_reads.Goals as goal
 
@@ -20,5 +19,5 @@ returns c =
       no_dot = stay.dot;
       no_white = stay.white;
       child = stay.child;
-      named = λ n h. refl;
+      named = c.plain_name.ensures;
     })
