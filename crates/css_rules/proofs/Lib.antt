@@ -8,6 +8,7 @@ pub mod SelectorNeighbours
 pub mod SelectorPlaces
 pub mod SelectorReadable
 pub mod SelectorReading
+pub mod SelectorReads
 pub mod SelectorSpelling
 pub mod WritingLemmas
 pub mod Heads

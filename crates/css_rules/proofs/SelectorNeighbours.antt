@@ -15,7 +15,8 @@ use Rattle.css_rules.specs.declared.selector.Simple.TheVariants as simples
 use Rattle.std.proofs.Common.{◌≤◌, ◌-◌, suc, length, drop, arith}
 use Rattle.std.specs.Prelude.{nat_eq}
 use lib.Pointwise.{pointwise}
-use Rattle.css_rules.specs.Names.{is_ident}
+use Rattle.css_tokens.specs.NameText.{name_text}
+use Rattle.css_tokens.specs.PlainNames.{is_plain_name}
 use Rattle.css_rules.specs.BareSelectors.{BareCompound, BareSelector}
 use Rattle.css_rules.specs.ReadableSelectors.{is_readable_type, is_readable_simple, has_type, has_simples, is_readable_compound, is_readable_selector, is_readable_list}
 use Rattle.css_rules.specs.SelectorTexts.{simple_text, type_text, compound_text, ends_in_dashes}
@@ -113,7 +114,7 @@ tail_ok d (amp ∷ us) = false
 
 -- the last atom of a text
 abbrev Ends : Atom → List ℕ → Type 0
-Ends (name n) text = (front : List ℕ) × (text ≡ front ++ n)
+Ends (name n) text = (front : List ℕ) × (text ≡ front ++ name_text n)
 Ends (hash n) text = Unit {0}
 Ends star text = Unit {0}
 Ends amp text = Unit {0}
@@ -130,10 +131,10 @@ unclear true false c f h = absurd (false≢true (f refl))
 unclear false true c f h = absurd (false≢true h)
 unclear false false c f h = h
 
-tail-name : (n front : List ℕ) (rest : List Atom) → tail_ok (ends (front ++ n)) rest ≡ true → are_neighbours (name n ∷ rest) ≡ true
+tail-name : (n front : List ℕ) (rest : List Atom) → tail_ok (ends (front ++ name_text n)) rest ≡ true → are_neighbours (name n ∷ rest) ≡ true
 tail-name n front [] h = refl
 tail-name n front (space ∷ us) h = h
-tail-name n front (greater ∷ us) h = unclear (ends n) (ends (front ++ n)) (are_neighbours (greater ∷ us)) (ends-behind front n) h
+tail-name n front (greater ∷ us) h = unclear (ends (name_text n)) (ends (front ++ name_text n)) (are_neighbours (greater ∷ us)) (ends-behind front (name_text n)) h
 tail-name n front (plus ∷ us) h = h
 tail-name n front (tilde ∷ us) h = h
 tail-name n front (comma ∷ us) h = h
@@ -243,10 +244,10 @@ parts-behind : (a : Atom) (text : List ℕ) (ss : List Simple) (rest : List Atom
 parts-behind a text [] rest e h = tail-any a text rest e (ap (λ (xs : List ℕ). tail_ok (ends xs) rest) (sym (append-nil text)) ∙ h)
 parts-behind a text (simples.Class n ∷ ss) rest e h =
     and-both (may_follow a dot) (are_neighbours (dot ∷ name n ∷ (part_atoms ss ++ rest))) (dot-behind a text e)
-    (parts-behind (name n) (text ++ (codes "." ++ n)) ss rest (text ++ codes ".", sym (append_assoc text (codes ".") n)) (ap (λ (xs : List ℕ). tail_ok (ends xs) rest) (append_assoc text (codes "." ++ n) (part_text ss)) ∙ h))
+    (parts-behind (name n) (text ++ (codes "." ++ name_text n)) ss rest (text ++ codes ".", sym (append_assoc text (codes ".") (name_text n))) (ap (λ (xs : List ℕ). tail_ok (ends xs) rest) (append_assoc text (codes "." ++ name_text n) (part_text ss)) ∙ h))
 parts-behind a text (simples.Id n ∷ ss) rest e h =
     and-both (may_follow a (hash n)) (are_neighbours (hash n ∷ (part_atoms ss ++ rest))) (hash-behind n a text e)
-    (parts-behind (hash n) (text ++ (codes "#" ++ n)) ss rest tt (ap (λ (xs : List ℕ). tail_ok (ends xs) rest) (append_assoc text (codes "#" ++ n) (part_text ss)) ∙ h))
+    (parts-behind (hash n) (text ++ (codes "#" ++ name_text n)) ss rest tt (ap (λ (xs : List ℕ). tail_ok (ends xs) rest) (append_assoc text (codes "#" ++ name_text n) (part_text ss)) ∙ h))
 parts-behind a text (simples.Parent ∷ ss) rest e h =
     and-both (may_follow a amp) (are_neighbours (amp ∷ (part_atoms ss ++ rest))) (amp-behind a text e)
     (parts-behind amp (text ++ codes "&") ss rest tt (ap (λ (xs : List ℕ). tail_ok (ends xs) rest) (append_assoc text (codes "&") (part_text ss)) ∙ h))
@@ -260,10 +261,10 @@ untyped-behind : (a : Atom) (ss : List Simple) (rest : List Atom) → Leads a �
 untyped-behind a [] rest l g h = absurd (false≢true g)
 untyped-behind a (simples.Class n ∷ ss) rest l g h =
     and-both (may_follow a dot) (are_neighbours (dot ∷ name n ∷ (part_atoms ss ++ rest))) (l dot refl)
-    (parts-behind (name n) (codes "." ++ n) ss rest (codes ".", refl) h)
+    (parts-behind (name n) (codes "." ++ name_text n) ss rest (codes ".", refl) h)
 untyped-behind a (simples.Id n ∷ ss) rest l g h =
     and-both (may_follow a (hash n)) (are_neighbours (hash n ∷ (part_atoms ss ++ rest))) (l (hash n) refl)
-    (parts-behind (hash n) (codes "#" ++ n) ss rest tt h)
+    (parts-behind (hash n) (codes "#" ++ name_text n) ss rest tt h)
 untyped-behind a (simples.Parent ∷ ss) rest l g h =
     and-both (may_follow a amp) (are_neighbours (amp ∷ (part_atoms ss ++ rest))) (l amp refl)
     (parts-behind amp (codes "&") ss rest tt h)
@@ -271,7 +272,7 @@ untyped-behind a (simples.Parent ∷ ss) rest l g h =
 typed-behind : (a : Atom) (kind : TypeName) (ss : List Simple) (rest : List Atom) → Leads a → (has_type kind || has_simples ss) ≡ true → tail_ok (ends (type_text kind ++ part_text ss)) rest ≡ true → are_neighbours (a ∷ ((type_atoms kind ++ part_atoms ss) ++ rest)) ≡ true
 typed-behind a types.None ss rest l g h = untyped-behind a ss rest l g h
 typed-behind a types.Universal ss rest l g h = and-both (may_follow a star) (are_neighbours (star ∷ (part_atoms ss ++ rest))) (l star refl) (parts-behind star (codes "*") ss rest tt h)
-typed-behind a (types.Name n) ss rest l g h = and-both (may_follow a (name n)) (are_neighbours (name n ∷ (part_atoms ss ++ rest))) (l (name n) refl) (parts-behind (name n) n ss rest ([], refl) h)
+typed-behind a (types.Name n) ss rest l g h = and-both (may_follow a (name n)) (are_neighbours (name n ∷ (part_atoms ss ++ rest))) (l (name n) refl) (parts-behind (name n) (name_text n) ss rest ([], refl) h)
 
 compound-behind : (a : Atom) (k : BareCompound) (rest : List Atom) → Leads a → is_readable_compound k ≡ true → tail_ok (ends (compound_text k)) rest ≡ true → are_neighbours (a ∷ (compound_atoms k ++ rest)) ≡ true
 compound-behind a k rest l g h = typed-behind a k.kind k.simples rest l (and-left (has_type k.kind || has_simples k.simples) (is_readable_type k.kind && list_all is_readable_simple k.simples) g) h
@@ -344,7 +345,7 @@ more-tail : (bs : List BareSelector) → list_all is_readable_selector bs ≡ tr
 more-tail [] g e = refl
 more-tail (b ∷ bs) g e = selector-behind comma b (more_atoms bs) leads-comma (and-left (is_readable_selector b) (list_all is_readable_selector bs) g) (more-tail bs (and-right (is_readable_selector b) (list_all is_readable_selector bs) g))
 
-without-first : (a : Atom) (us : List Atom) → are_neighbours (a ∷ us) ≡ true → are_neighbours us ≡ true
+pub without-first : (a : Atom) (us : List Atom) → are_neighbours (a ∷ us) ≡ true → are_neighbours us ≡ true
 without-first a [] h = refl
 without-first a (b ∷ us) h = and-right (may_follow a b) (are_neighbours (b ∷ us)) h
 
@@ -360,11 +361,11 @@ all-append xs ys h k = list_all-append is_spelled_atom xs ys ∙ ap (λ (b : Boo
 spelled-type : (kind : TypeName) → is_readable_type kind ≡ true → list_all is_spelled_atom (type_atoms kind) ≡ true
 spelled-type types.None h = refl
 spelled-type types.Universal h = refl
-spelled-type (types.Name n) h = and-both (is_ident n) true h refl
+spelled-type (types.Name n) h = and-both (is_plain_name n) true h refl
 
 spelled-simple : (s : Simple) → is_readable_simple s ≡ true → list_all is_spelled_atom (simple_atoms s) ≡ true
-spelled-simple (simples.Class n) h = and-both (is_ident n) true h refl
-spelled-simple (simples.Id n) h = and-both (is_ident n) true h refl
+spelled-simple (simples.Class n) h = and-both (is_plain_name n) true h refl
+spelled-simple (simples.Id n) h = and-both (is_plain_name n) true h refl
 spelled-simple simples.Parent h = refl
 
 spelled-simples : (ss : List Simple) → list_all is_readable_simple ss ≡ true → list_all is_spelled_atom (part_atoms ss) ≡ true

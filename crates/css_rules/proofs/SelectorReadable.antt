@@ -21,7 +21,7 @@ use Rattle.css_rules.specs.declared.selector.Part.{Part}
 use Rattle.css_rules.specs.declared.selector.Selector.{Selector}
 use Rattle.css_rules.specs.declared.selector.sign.Sign.{Sign}
 use Rattle.css_rules.specs.declared.selector.sign.Sign.TheVariants.{Comment, White, Child, Next, Later, Name, Star, Dot, Id, Parent, Other}
-use Rattle.css_rules.specs.Names.{is_ident}
+use Rattle.css_tokens.specs.PlainNames.{is_plain_name}
 use Rattle.css_rules.specs.Signs.{kind_sign, sign_of, place_of, is_comma, open_sign}
 use Rattle.css_rules.specs.Selectors.{with_part, parts_of, compound_with, compound_of, stripped, white_before, sign_before, spaced, clean_signs, Runs, run_before, runs_of, links_of, selector_at, first_place, selector_of, Member, empty_before, with_component, cut_at_commas, members_of, fault_of, list_of, list_faults}
 use Rattle.css_rules.specs.BareSelectors.{BareCompound, BareSelector, bare_list}
@@ -32,8 +32,8 @@ use Rattle.css_rules.proofs.SelectorSpelling.{and-left, and-right, and-both}
 -- Signs whose names spell Idents.
 
 abbrev good : Sign → Bool
-good (Name n) = is_ident n
-good (Id n a) = is_ident n
+good (Name n) = is_plain_name n
+good (Id n a) = is_plain_name n
 good White = true
 good Comment = true
 good Child = true
@@ -44,7 +44,7 @@ good (Dot a) = true
 good (Parent a) = true
 good Other = true
 
-good-id : (n : List ℕ) (at : ℕ) (b : Bool) → b ≡ is_ident n → good (if b then Id n at else Other) ≡ true
+good-id : (n : List ℕ) (at : ℕ) (b : Bool) → b ≡ is_plain_name n → good (if b then Id n at else Other) ≡ true
 good-id n at true e = sym e
 good-id n at false e = refl
 
@@ -59,7 +59,7 @@ good-delim false false false false false false at = refl
 
 good-kind : (k : Kind) (text : List ℕ) (at : ℕ) → is_spelled_kind k text ≡ true → good (kind_sign k text at) ≡ true
 good-kind kinds.Ident text at h = h
-good-kind kinds.Hash text at h = good-id (drop 1 text) at (is_ident (drop 1 text)) refl
+good-kind kinds.Hash text at h = good-id (drop 1 text) at (is_plain_name (drop 1 text)) refl
 good-kind kinds.Delim text at h = good-delim (is_text text (codes ">")) (is_text text (codes "+")) (is_text text (codes "~")) (is_text text (codes "*")) (is_text text (codes ".")) (is_text text (codes "&")) at
 good-kind kinds.White text at h = refl
 good-kind kinds.Comment text at h = refl
@@ -160,10 +160,10 @@ good-before White ws g h = good-white ws h
 good-before Child ws g h = good-stripped ws h
 good-before Next ws g h = good-stripped ws h
 good-before Later ws g h = good-stripped ws h
-good-before (Name n) ws g h = and-both (is_ident n) (list_all good ws) g h
+good-before (Name n) ws g h = and-both (is_plain_name n) (list_all good ws) g h
 good-before Star ws g h = h
 good-before (Dot a) ws g h = h
-good-before (Id n a) ws g h = and-both (is_ident n) (list_all good ws) g h
+good-before (Id n a) ws g h = and-both (is_plain_name n) (list_all good ws) g h
 good-before (Parent a) ws g h = h
 good-before Other ws g h = h
 
@@ -183,10 +183,10 @@ good-run Comment runs g h = h
 good-run Child runs g h = h
 good-run Next runs g h = h
 good-run Later runs g h = h
-good-run (Name n) runs g h = and-assoc (is_ident n) (list_all good runs.first) (list_all good_run runs.rest) (and-both (is_ident n) (good_runs runs) g h)
+good-run (Name n) runs g h = and-assoc (is_plain_name n) (list_all good runs.first) (list_all good_run runs.rest) (and-both (is_plain_name n) (good_runs runs) g h)
 good-run Star runs g h = h
 good-run (Dot a) runs g h = h
-good-run (Id n a) runs g h = and-assoc (is_ident n) (list_all good runs.first) (list_all good_run runs.rest) (and-both (is_ident n) (good_runs runs) g h)
+good-run (Id n a) runs g h = and-assoc (is_plain_name n) (list_all good runs.first) (list_all good_run runs.rest) (and-both (is_plain_name n) (good_runs runs) g h)
 good-run (Parent a) runs g h = h
 good-run Other runs g h = h
 
@@ -212,8 +212,8 @@ part-test s at o g h = ap (λ (x : Option (List Simple)). simples_test x) (read-
 
 test-parts : (ws : List Sign) → list_all good ws ≡ true → simples_test (simples_read (parts_of ws)) ≡ true
 test-parts [] h = refl
-test-parts (Dot a ∷ Name n ∷ ws) h = part-test (simples.Class n) a (parts_of ws) (and-left (is_ident n) (list_all good ws) h) (test-parts ws (and-right (is_ident n) (list_all good ws) h))
-test-parts (Id n a ∷ ws) h = part-test (simples.Id n) a (parts_of ws) (and-left (is_ident n) (list_all good ws) h) (test-parts ws (and-right (is_ident n) (list_all good ws) h))
+test-parts (Dot a ∷ Name n ∷ ws) h = part-test (simples.Class n) a (parts_of ws) (and-left (is_plain_name n) (list_all good ws) h) (test-parts ws (and-right (is_plain_name n) (list_all good ws) h))
+test-parts (Id n a ∷ ws) h = part-test (simples.Id n) a (parts_of ws) (and-left (is_plain_name n) (list_all good ws) h) (test-parts ws (and-right (is_plain_name n) (list_all good ws) h))
 test-parts (Parent a ∷ ws) h = part-test simples.Parent a (parts_of ws) refl (test-parts ws h)
 test-parts (Dot a ∷ []) h = refl
 test-parts (Dot a ∷ White ∷ ws) h = refl
@@ -285,7 +285,7 @@ untyped-test w ws h = ap (λ (o : Option BareCompound). compound_test o) (read-k
 
 test-compound : (ws : List Sign) → list_all good ws ≡ true → compound_test (compound_read (compound_of ws)) ≡ true
 test-compound [] h = refl
-test-compound (Name n ∷ ws) h = typed-test (types.Name n) ws refl (and-left (is_ident n) (list_all good ws) h) (and-right (is_ident n) (list_all good ws) h)
+test-compound (Name n ∷ ws) h = typed-test (types.Name n) ws refl (and-left (is_plain_name n) (list_all good ws) h) (and-right (is_plain_name n) (list_all good ws) h)
 test-compound (Star ∷ ws) h = typed-test types.Universal ws refl refl h
 test-compound (White ∷ ws) h = untyped-test White ws h
 test-compound (Comment ∷ ws) h = untyped-test Comment ws h

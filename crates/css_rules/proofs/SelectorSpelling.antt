@@ -12,6 +12,7 @@ use Rattle.css_tokens.specs.declared.component.Block as block
 use Rattle.css_tokens.specs.declared.component.Component.TheOpen.{Component-F}
 use Rattle.css_tokens.specs.declared.component.Component.TheFolds.{fold-Component, fold_out-Component}
 use Rattle.css_tokens.specs.declared.component.Component.TheVariants.{outs-Single}
+use Rattle.css_tokens.specs.NameText.{name_text}
 use Rattle.css_tokens.specs.Piece.{Piece, Word, word_of, spelled}
 use Rattle.css_tokens.specs.Trees.{opens, closes, pieces_all, words_all, pieces_of-Single, is_formed, all_formed, component_formed, block_formed}
 use Rattle.css_rules.specs.declared.selector.Combinator.{Combinator}
@@ -133,11 +134,11 @@ both xs ys a b h k = spelled-append xs ys ∙ ap (λ (t : List ℕ). t ++ spelle
 text-type : (kind : TypeName) → spelled (type_words kind) ≡ type_text kind
 text-type types.None = refl
 text-type types.Universal = refl
-text-type (types.Name n) = append-nil n
+text-type (types.Name n) = append-nil (name_text n)
 
 text-simple : (s : Simple) → spelled (simple_words s) ≡ simple_text s
-text-simple (simples.Class n) = ap (λ (t : List ℕ). codes "." ++ t) (append-nil n)
-text-simple (simples.Id n) = ap (λ (t : List ℕ). codes "#" ++ t) (append-nil n)
+text-simple (simples.Class n) = ap (λ (t : List ℕ). codes "." ++ t) (append-nil (name_text n))
+text-simple (simples.Id n) = ap (λ (t : List ℕ). codes "#" ++ t) (append-nil (name_text n))
 text-simple simples.Parent = refl
 
 text-simples : (ss : List Simple) → spelled (flat_map simple_words ss) ≡ flat_map simple_text ss

@@ -7,7 +7,6 @@ pub mod Sheets
 pub mod Marks
 pub mod SelectorFaults
 pub mod BareSelectors
-pub mod Names
 pub mod SelectorSteps
 pub mod SelectorTexts
 pub mod ReadableSelectors

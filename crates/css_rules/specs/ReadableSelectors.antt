@@ -9,16 +9,16 @@ use Rattle.css_rules.specs.declared.selector.TypeName.TheVariants as types
 use Rattle.css_rules.specs.declared.selector.Simple.{Simple}
 use Rattle.css_rules.specs.declared.selector.Simple.TheVariants.{Class, Id, Parent}
 use Rattle.css_rules.specs.BareSelectors.{BareCompound, BareSelector}
-use Rattle.css_rules.specs.Names.{is_ident}
+use Rattle.css_tokens.specs.PlainNames.{is_plain_name}
 
 abbrev pub is_readable_type : TypeName → Bool
 is_readable_type types.None = true
 is_readable_type types.Universal = true
-is_readable_type (types.Name name) = is_ident name
+is_readable_type (types.Name name) = is_plain_name name
 
 abbrev pub is_readable_simple : Simple → Bool
-is_readable_simple (Class name) = is_ident name
-is_readable_simple (Id name) = is_ident name
+is_readable_simple (Class name) = is_plain_name name
+is_readable_simple (Id name) = is_plain_name name
 is_readable_simple Parent = true
 
 abbrev pub has_type : TypeName → Bool
@@ -48,7 +48,7 @@ is_readable_list bs = has_selectors bs && list_all is_readable_selector bs
 
 -- An Ident spells one.
 abbrev pub is_spelled_kind : Kind → List ℕ → Bool
-is_spelled_kind kinds.Ident text = is_ident text
+is_spelled_kind kinds.Ident text = is_plain_name text
 is_spelled_kind _ text = true
 
 abbrev pub is_spelled : Word → Bool

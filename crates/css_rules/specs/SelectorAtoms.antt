@@ -8,7 +8,8 @@ use Rattle.css_rules.specs.declared.selector.TypeName.TheVariants as types
 use Rattle.css_rules.specs.declared.selector.Simple.{Simple}
 use Rattle.css_rules.specs.declared.selector.Simple.TheVariants as simples
 use Rattle.css_rules.specs.BareSelectors.{BareCompound, BareSelector}
-use Rattle.css_rules.specs.Names.{is_ident}
+use Rattle.css_tokens.specs.NameText.{name_text}
+use Rattle.css_tokens.specs.PlainNames.{is_plain_name}
 use Rattle.css_rules.specs.SelectorTexts.{compound_text, ends_in_dashes}
 use Rattle.css_rules.specs.SelectorWords as words
 
@@ -80,8 +81,8 @@ list_atoms (b ∷ bs) = selector_atoms b ++ more_atoms bs
 
 -- Names spell Idents.
 abbrev pub is_spelled_atom : Atom → Bool
-is_spelled_atom (name n) = is_ident n
-is_spelled_atom (hash n) = is_ident n
+is_spelled_atom (name n) = is_plain_name n
+is_spelled_atom (hash n) = is_plain_name n
 is_spelled_atom dot = true
 is_spelled_atom star = true
 is_spelled_atom amp = true
@@ -104,7 +105,7 @@ is_behind_part plus = true
 is_behind_part tilde = true
 is_behind_part comma = true
 
--- the same behind a name: no `>` where the name ends in `--`
+-- the same behind a name: no `>` where its text ends in `--`
 abbrev pub is_behind_name : List ℕ → Atom → Bool
 is_behind_name n (name m) = false
 is_behind_name n (hash m) = true
@@ -112,7 +113,7 @@ is_behind_name n dot = true
 is_behind_name n star = false
 is_behind_name n amp = true
 is_behind_name n space = true
-is_behind_name n greater = not (ends_in_dashes n)
+is_behind_name n greater = not (ends_in_dashes (name_text n))
 is_behind_name n plus = true
 is_behind_name n tilde = true
 is_behind_name n comma = true

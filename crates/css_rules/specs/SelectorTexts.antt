@@ -8,7 +8,7 @@ use Rattle.css_rules.specs.declared.selector.TypeName.TheVariants as types
 use Rattle.css_rules.specs.declared.selector.Simple.{Simple}
 use Rattle.css_rules.specs.declared.selector.Simple.TheVariants.{Class, Id, Parent}
 use Rattle.css_rules.specs.BareSelectors.{BareCompound, BareSelector}
-use Rattle.css_rules.specs.Names.{name_text}
+use Rattle.css_tokens.specs.NameText.{name_text}
 
 abbrev pub type_text : TypeName → List ℕ
 type_text types.None = []

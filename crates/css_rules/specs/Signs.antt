@@ -9,11 +9,11 @@ use Rattle.css_tokens.specs.Piece.{Piece}
 use Rattle.css_tokens.specs.Trees.{is_text}
 use Rattle.css_rules.specs.declared.selector.sign.Sign.{Sign}
 use Rattle.css_rules.specs.declared.selector.sign.Sign.TheVariants.{Comment, White, Child, Next, Later, Name, Star, Dot, Id, Parent, Other}
-use Rattle.css_rules.specs.Names.{is_ident}
+use Rattle.css_tokens.specs.PlainNames.{is_plain_name}
 
 -- A Hash is an id where its text after `#` spells an Ident.
 abbrev pub id_of : List ℕ → ℕ → Sign
-id_of text at = if is_ident (drop 1 text) then Id (drop 1 text) at else Other
+id_of text at = if is_plain_name (drop 1 text) then Id (drop 1 text) at else Other
 
 abbrev pub delim_of : List ℕ → ℕ → Sign
 delim_of text at =

@@ -303,7 +303,7 @@ swapped c x h =
       | inr e ↦ e
     ]
 
-begun : (set : List Class) (x : Class) (t : List Class) → begins set (x ∷ t) ≡ false → has set x ≡ false
+pub begun : (set : List Class) (x : Class) (t : List Class) → begins set (x ∷ t) ≡ false → has set x ≡ false
 begun [] x t h = refl
 begun (c ∷ set) x t h =
     elim (cases_Bool (is_class c x)) [

@@ -23,6 +23,7 @@ pub mod Walk
 pub mod WritingLemmas
 pub mod GapLemmas
 pub mod NameLemmas
+pub mod NameSpelling
 pub mod NameTextLemmas
 pub mod NestLemmas
 pub mod PairingLemmas

@@ -13,7 +13,7 @@ use Rattle.css_tokens.proofs.GapLemmas.{bool_cases}
 use Rattle.css_tokens.proofs.Rebuilt.{both}
 use Rattle.css_tokens.proofs.NameTextLemmas.{name_text-chars}
 
-plain-ascii : (b : ℕ) → is_plain b ≡ true → b < 128
+pub plain-ascii : (b : ℕ) → is_plain b ≡ true → b < 128
 plain-ascii b e = grind (arith, nat_tests)
 
 plain-needs_code : (b : ℕ) → is_plain b ≡ true → needs_code b ≡ false
@@ -22,7 +22,7 @@ plain-needs_code b e = grind (arith, nat_tests)
 plain-itself : (b : ℕ) → is_plain b ≡ true → stands_for_itself b ≡ true
 plain-itself b e = grind (arith, nat_tests)
 
-start-plain : (b : ℕ) → is_plain_start b ≡ true → is_plain b ≡ true
+pub start-plain : (b : ℕ) → is_plain_start b ≡ true → is_plain b ≡ true
 start-plain b e = grind (arith, nat_tests)
 
 start-digit : (b : ℕ) → is_plain_start b ≡ true → is_ascii_digit b ≡ false

@@ -19,7 +19,7 @@ use Rattle.css_tokens.proofs.Runs.{run, kind_of-run}
 use Rattle.css_tokens.proofs.Again.{comes_from, none_next, dies_at, end_longest, url_classes}
 
 -- a word before a text that does not go on with it
-stays_by : (u : List ℕ) (k : Kind) (set : List Class) (rest : List ℕ) → dies_at (run state.Start (classes_of u)) set → ended (run state.Start (classes_of u)) [] ≡ Some k → ((after : List Class) → ended (run state.Start (classes_of u)) after ≡ ended (run state.Start (classes_of u)) []) → is_url u ≡ false → begins_none set rest ≡ true → StaysFirst (word_from k u) rest
+pub stays_by : (u : List ℕ) (k : Kind) (set : List Class) (rest : List ℕ) → dies_at (run state.Start (classes_of u)) set → ended (run state.Start (classes_of u)) [] ≡ Some k → ((after : List Class) → ended (run state.Start (classes_of u)) after ≡ ended (run state.Start (classes_of u)) []) → is_url u ≡ false → begins_none set rest ≡ true → StaysFirst (word_from k u) rest
 stays_by u k set rest d e f n h = by_table (word_from k u) rest (record {
   found = comes_from state.Start u rest k (none_next (run state.Start (classes_of u)) set k d e f (classes_of rest) (not-true (begins set (classes_of rest)) h));
   ruled = ap (λ b. b && not (quote_follows (classes_of rest))) n;
@@ -49,7 +49,7 @@ pub space_stays : (rest : List ℕ) → begins_none white rest ≡ true → Stay
 space_stays rest h = stays_by (codes " ") kind.White white rest white_dies refl (λ after. refl) refl h
 
 -- the state that a spelled word comes to has its kind
-names-eq : (k : Kind) (o : Option Kind) → names k o ≡ true → o ≡ Some k
+pub names-eq : (k : Kind) (o : Option Kind) → names k o ≡ true → o ≡ Some k
 names-eq k None h = cc
 names-eq k (Some j) h = ap Some (sym (is_kind-eq k j h))
 
@@ -61,7 +61,7 @@ spelled_state u k f h =
       | inr e ↦ let g = rw f at e in cc
     ]
 
-not_function : (u : List ℕ) (k : Kind) → is_kind k kind.Function ≡ false → ended (run state.Start (classes_of u)) [] ≡ Some k → is_url u ≡ false
+pub not_function : (u : List ℕ) (k : Kind) → is_kind k kind.Function ≡ false → ended (run state.Start (classes_of u)) [] ≡ Some k → is_url u ≡ false
 not_function u k f h =
     elim (cases_Bool (is_url u)) [
       | inl e ↦

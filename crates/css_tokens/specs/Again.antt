@@ -79,3 +79,14 @@ begins_none set text = not (begins set (classes_of text))
 -- what makes a name longer, or a Function or `-->` of it
 abbrev pub after_ident : List Class
 after_ident = name ++ class.OpenParen ∷ class.Greater ∷ []
+
+-- the same, without the `>` of `-->`
+abbrev pub after_name : List Class
+after_name = name ++ class.OpenParen ∷ []
+
+-- what makes a number of a `.`, and what may make one of a `+`
+abbrev pub digit : List Class
+digit = class.Digit ∷ []
+
+abbrev pub digit_or_dot : List Class
+digit_or_dot = class.Digit ∷ class.Dot ∷ []

@@ -1,13 +1,14 @@
-ghost use Rattle.std.specs.Prelude.{ℕ, List, ◌∷◌, [], ◌++◌, ◌≡◌, IsTrue, true, false, codes};
+ghost use Rattle.std.specs.Prelude.{ℕ, List, ◌∷◌, [], ◌++◌, ◌≡◌, ◌≢◌, IsTrue, true, false, codes};
 ghost use Rattle.std.specs.List.{AllByRecursion, list_all};
 ghost use Rattle.std.specs.Str.{str_to_ascii_lowercase};
 ghost use Rattle.css_tokens.specs.declared.component.Component.{Component};
 ghost use Rattle.css_tokens.specs.declared.class.Class.TheVariants as class;
 ghost use Rattle.css_tokens.specs.declared.kind.Kind.TheVariants as kind;
-ghost use Rattle.css_tokens.specs.Again.{StaysFirst, Alike, KeepsQuote, is_solid, is_stop, is_end_kind, word_from, marks, begins_none, after_ident};
+ghost use Rattle.css_tokens.specs.Again.{StaysFirst, Alike, KeepsQuote, is_solid, is_stop, is_end_kind, word_from, marks, begins_none, after_ident, after_name, digit, digit_or_dot};
 ghost use Rattle.css_tokens.specs.Characters.{name, white};
 ghost use Rattle.css_tokens.specs.Piece.{Word, spelled};
-ghost use Rattle.css_tokens.specs.Tokens.{First, Reads, ReadsTo, StopsAt, classes_of, is_url, quote_follows, spells};
+ghost use Rattle.css_tokens.specs.PlainNames.{is_plain_name};
+ghost use Rattle.css_tokens.specs.Tokens.{First, Reads, ReadsTo, StopsAt, classes_of, is_plain, is_url, quote_follows, spells};
 ghost use Rattle.css_tokens.specs.Trees.{words_all, all_formed, is_text};
 ghost use Rattle.css_tokens.specs.Values.{is_gap, value_words, value_text};
 
@@ -24,8 +25,8 @@ pub fn words_again()
     ensures keeps { (w : Word) (a b : List ℕ) → is_solid w.kind ≡ true → StaysFirst w a → Alike a b → (is_url w.text ≡ true → KeepsQuote a b) → StaysFirst w b }
     ensures composes { (xs ys : List Word) (s r : List ℕ) → ReadsTo (spelled xs ++ s) xs s → ReadsTo s ys r → ReadsTo (spelled xs ++ s) (xs ++ ys) r }
     ensures marks { AllByRecursion (λ w. (rest : List ℕ) → StaysFirst w rest) marks }
-    ensures dot { (rest : List ℕ) → begins_none (class.Digit ∷ []) rest ≡ true → StaysFirst (word_from kind.Delim (codes ".")) rest }
-    ensures plus { (rest : List ℕ) → begins_none (class.Digit ∷ class.Dot ∷ []) rest ≡ true → StaysFirst (word_from kind.Delim (codes "+")) rest }
+    ensures dot { (rest : List ℕ) → begins_none digit rest ≡ true → StaysFirst (word_from kind.Delim (codes ".")) rest }
+    ensures plus { (rest : List ℕ) → begins_none digit_or_dot rest ≡ true → StaysFirst (word_from kind.Delim (codes "+")) rest }
     ensures space { (rest : List ℕ) → begins_none white rest ≡ true → StaysFirst (word_from kind.White (codes " ")) rest }
     ensures ident { (u rest : List ℕ) → spells kind.Ident u ≡ true → begins_none after_ident rest ≡ true → StaysFirst (word_from kind.Ident u) rest }
     ensures hash { (u rest : List ℕ) → spells kind.Hash u ≡ true → begins_none name rest ≡ true → StaysFirst (word_from kind.Hash u) rest }
@@ -47,4 +48,22 @@ pub fn values_again()
     ensures important { (u rest : List ℕ) → is_text (str_to_ascii_lowercase u) (codes "important") ≡ true → begins_none (class.Minus ∷ []) (u ++ rest) ≡ true }
     ensures word_spelled { (t : List ℕ) (w : Word) → First t w → spells w.kind w.text ≡ true }
     ensures words_spelled { (t : List ℕ) (ws : List Word) (s : List ℕ) → ReadsTo t ws s → list_all (λ w. spells w.kind w.text) ws ≡ true }
+{}
+
+/// The plain names are the Idents in ASCII without escapes, and `#` with one is a Hash. The first token of a text spells its kind.
+pub fn names_spell()
+    ensures ident { (n : List ℕ) → is_plain_name n ≡ true → spells kind.Ident n ≡ true }
+    ensures plain { (n : List ℕ) → is_plain n ≡ true → spells kind.Ident n ≡ true → is_plain_name n ≡ true }
+    ensures hash { (n : List ℕ) → is_plain_name n ≡ true → spells kind.Hash (codes "#" ++ n) ≡ true }
+    ensures first { (t : List ℕ) (w : Word) → First t w → spells w.kind w.text ≡ true }
+{}
+
+/// What stands next to a plain name: it begins with no digit, `.` or white space; one other than `--` stays an Ident before
+/// a `>` too; and a `+` stays a Delim before a `.` that begins no number.
+pub fn names_stay()
+    ensures digit { (n rest : List ℕ) → is_plain_name n ≡ true → begins_none digit (n ++ rest) ≡ true }
+    ensures dot { (n rest : List ℕ) → is_plain_name n ≡ true → begins_none digit_or_dot (n ++ rest) ≡ true }
+    ensures white { (n rest : List ℕ) → is_plain_name n ≡ true → begins_none white (n ++ rest) ≡ true }
+    ensures child { (n rest : List ℕ) → is_plain_name n ≡ true → n ≢ codes "--" → begins_none after_name rest ≡ true → StaysFirst (word_from kind.Ident n) rest }
+    ensures plus_dot { (rest : List ℕ) → begins_none digit rest ≡ true → StaysFirst (word_from kind.Delim (codes "+")) (codes "." ++ rest) }
 {}

@@ -5,10 +5,13 @@ ghost use Rattle.css_rules.specs.SelectorTexts.{list_text};
 ghost use Rattle.css_rules.specs.SelectorWords.{list_again};
 ghost use Rattle.css_rules.specs.Selectors.{list_faults, list_of};
 ghost use Rattle.css_tokens.specs.Piece.{spelled};
+ghost use Rattle.css_tokens.specs.Tokens.{ReadsTo};
 ghost use Rattle.css_tokens.specs.Trees.{all_formed, words_all};
 ghost use Rattle.css_tokens.specs.declared.component.Component.{Component};
 ghost use Rattle.std.specs.List.{list_all};
-ghost use Rattle.std.specs.Prelude.{◌≡◌, ℕ, List, [], map, IsTrue};
+ghost use Rattle.std.specs.Prelude.{◌≡◌, ◌++◌, ℕ, List, [], codes, map, IsTrue};
+
+use css_tokens::{names_spell, names_stay, plain_name, words_again};
 
 /// The components that a list's text is made of spell that text, are well formed, and are read as that list again, also
 /// where they stand at other places; and what a list without faults is read as can be written so.
@@ -18,7 +21,9 @@ pub fn selectors_are_read_again()
     ensures sound { (bs : List BareSelector) (cs : List Component) (end : ℕ) → IsTrue (is_readable_list bs) → words_all cs ≡ words_all (list_again bs) → list_faults cs end ≡ [] }
     ensures same { (bs : List BareSelector) (cs : List Component) → IsTrue (is_readable_list bs) → words_all cs ≡ words_all (list_again bs) → bare_list (list_of cs) ≡ bs }
     ensures readable { (cs : List Component) (end : ℕ) → IsTrue (list_all is_spelled (words_all cs)) → list_faults cs end ≡ [] → IsTrue (is_readable_list (bare_list (list_of cs))) }
-{}
+{
+    plain_name();
+}
 
 /// Which words stand next to each other in a list's text: each may stand behind the one before it, and names spell Idents.
 pub fn selector_words_are_neighbours()
@@ -26,3 +31,13 @@ pub fn selector_words_are_neighbours()
     ensures neighbours { (bs : List BareSelector) → IsTrue (is_readable_list bs) → IsTrue (are_neighbours (list_atoms bs)) }
     ensures names { (bs : List BareSelector) → IsTrue (is_readable_list bs) → IsTrue (list_all is_spelled_atom (list_atoms bs)) }
 {}
+
+/// The text of a list before a block reads as its words.
+pub fn selector_text_reads()
+    ensures { (bs : List BareSelector) (rest : List ℕ) → IsTrue (is_readable_list bs) → ReadsTo (list_text bs ++ (codes "{" ++ rest)) (words_all (list_again bs)) (codes "{" ++ rest) }
+{
+    words_again();
+    names_spell();
+    names_stay();
+    plain_name();
+}

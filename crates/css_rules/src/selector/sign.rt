@@ -1,9 +1,7 @@
-ghost use Rattle.css_rules.specs.Names.{is_ident, is_name_part, is_name_start, is_undashed, is_behind_dash};
 ghost use Rattle.css_rules.specs.Signs.{delim_of, id_of, is_comma, is_comma_kind, is_gap, is_gap_kind, place_of, sign_of, token_sign};
-ghost use Rattle.std.specs.List.{list_all};
 ghost use Rattle.std.specs.Prelude.{◌≡◌};
 
-use css_tokens::{Component, Kind, Text, Token};
+use css_tokens::{Component, Kind, Text, Token, is_plain_name};
 
 /// What a component value is to the grammar of selectors (Selectors 4, section 17).
 #[derive(Debug, Drop)]
@@ -32,77 +30,13 @@ pub enum Sign<'a> {
     Other,
 }
 
-/// Whether a byte may begin a name (CSS Syntax 3, section 4.2), in ASCII without escapes.
-fn is_name_start(byte: u8) -> bool
-    ensures { result ≡ is_name_start byte }
-{
-    byte.is_ascii_alphabetic() || byte == b'_'
-}
-
-/// Whether a byte may stand inside a name (CSS Syntax 3, section 4.2), in ASCII without escapes.
-fn is_name_part(byte: u8) -> bool
-    ensures { result ≡ is_name_part byte }
-{
-    is_name_start(byte) || byte.is_ascii_digit() || byte == b'-'
-}
-
-/// Whether all of a text may stand inside a name.
-fn all_name_parts(bytes: &[u8]) -> bool
-    ensures { result ≡ list_all is_name_part bytes.now }
-{
-    bytes.iter().all(|byte| is_name_part(*byte))
-}
-
-/// Whether a text is a name start and any name characters.
-fn is_undashed(bytes: &[u8]) -> bool
-    ensures { result ≡ is_undashed bytes.now }
-{
-    match bytes {
-        [] => false,
-        [first, rest @ ..] => is_name_start(*first) && all_name_parts(rest),
-    }
-}
-
-/// Whether what stands behind a first `-` completes an Ident.
-fn is_behind_dash(bytes: &[u8]) -> bool
-    ensures { result ≡ is_behind_dash bytes.now }
-{
-    match bytes {
-        [] => false,
-        [first, rest @ ..] => {
-            if *first == b'-' {
-                all_name_parts(rest)
-            } else {
-                is_undashed(bytes)
-            }
-        }
-    }
-}
-
-/// Whether a text spells an Ident (CSS Syntax 3, section 4.3.9), in ASCII without escapes.
-pub fn is_ident(text: &str) -> bool
-    ensures { result ≡ is_ident text.now }
-{
-    let bytes = text.as_bytes();
-    match bytes {
-        [] => false,
-        [first, rest @ ..] => {
-            if *first == b'-' {
-                is_behind_dash(rest)
-            } else {
-                is_undashed(bytes)
-            }
-        }
-    }
-}
-
 /// What a Hash is: an id where its text after `#` spells an Ident.
 fn id_of<'a>(text: &'a str, at: u32) -> Sign<'a>
     ensures { result ≡ id_of text.now at }
 {
     if text.is_char_boundary(1) {
         let (_hash, name) = text.split_at(1);
-        if is_ident(name) {
+        if is_plain_name(name) {
             return Sign::Id(Text::lent(name), at);
         }
     }

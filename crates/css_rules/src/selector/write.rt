@@ -1,7 +1,7 @@
 ghost use Rattle.css_rules.specs.BareSelectors.{bare_compound, bare_link, bare_list, bare_selector};
-ghost use Rattle.css_rules.specs.Names.{name_text};
 ghost use Rattle.css_rules.specs.SelectorTexts.{combinator_text, compound_text, ends_in_dashes, lead_text, links_text, list_text, more_text, selector_text, simple_text, type_text};
 ghost use Rattle.css_rules.specs.Writing.{IsBegun};
+ghost use Rattle.css_tokens.specs.NameText.{name_text};
 ghost use Rattle.std.specs.Prelude.{◌≡◌, ◌++◌, flat_map, map, IfOk, OnErr, OnOk};
 
 use crate::selector::{Combinator, Compound, Link, Part, Selector, Simple, TypeName};
@@ -14,12 +14,15 @@ fn write_bytes(bytes: &[u8], out: &mut List<u8>) -> Result<(), OutOfMemory>
     out.extend_from_slice(bytes)
 }
 
-/// Writes a name.
+/// Writes a name by the identifier serialization of CSSOM, and an empty one as nothing.
 fn write_name(name: &Text, out: &mut List<u8>) -> Result<(), OutOfMemory>
     ensures ok { OnOk result (out.new ≡ out.old ++ name_text name.now) }
     ensures err { OnErr result (IsBegun out.old out.new (name_text name.now)) }
 {
-    write_bytes(name.as_str().as_bytes(), out)
+    if name.as_str().is_empty() {
+        return Ok(());
+    }
+    css_tokens::write_name(name.as_str(), out)
 }
 
 /// Writes a name behind a mark.

@@ -10,10 +10,10 @@ pub returns-clause-formed : goal.returns-clause-formed
 returns-clause-formed c = formed-list
 
 pub returns-clause-sound : goal.returns-clause-sound
-returns-clause-sound c = again-sound
+returns-clause-sound c = again-sound c.plain_name.ensures
 
 pub returns-clause-same : goal.returns-clause-same
-returns-clause-same c = again-same
+returns-clause-same c = again-same c.plain_name.ensures
 
 pub returns-clause-readable : goal.returns-clause-readable
 returns-clause-readable c = readable-list
