@@ -1,11 +1,10 @@
 -- Lists that are joined by marks are cut at them again.
-use Rattle.std.proofs.Common.{◌≡◌, ℕ, List, [], ◌∷◌, ◌++◌, Bool, true, false, ◌&&◌, ◌||◌, not, Option, Some, None, refl, sym, ◌∙◌, ap, cond, flat_map, map}
-use Rattle.std.proofs.lemmas.List.{append_assoc}
+use Rattle.std.proofs.Common.{◌≡◌, List, [], ◌∷◌, ◌++◌, Bool, true, false, ◌&&◌, ◌||◌, Some, None, refl, ◌∙◌, ap, cond}
 use Rattle.std.specs.List.{list_any, list_all}
 use Rattle.css_tokens.specs.declared.component.Component.{Component}
 use Rattle.css_rules.specs.Components.{is_gap}
-use Rattle.css_rules.specs.Cuts.{Cut, cuts, with_front, trimmed, trimmed_start, trimmed_end}
-use Rattle.css_rules.proofs.CutLemmas.{cuts-unmarked, cuts-marked, trimmed_start-other, trimmed_end-other}
+use Rattle.css_rules.specs.Cuts.{cuts, with_front, trimmed_end}
+use Rattle.css_rules.proofs.CutLemmas.{cuts-unmarked, cuts-marked}
 use Rattle.css_rules.proofs.DeclarationLemmas.{or_false_left, or_false_right}
 
 -- what holds no mark is the front of the first cut

@@ -1,32 +1,27 @@
 -- A printed declaration is read as that declaration.
-use Rattle.std.proofs.Common.{◌≡◌, ℕ, List, [], ◌∷◌, ◌++◌, map, Bool, true, false, ◌&&◌, ◌||◌, not, Option, Some, None, refl, sym, ◌∙◌, ap, cond, IsTrue, inl, inr, ◌⊎◌, find, codes, is_some, filter}
-use Rattle.std.specs.List.{list_any, list_all}
-use Rattle.std.proofs.lemmas.Bool.{cases_Bool}
+use Rattle.std.proofs.Common.{◌≡◌, ℕ, List, [], ◌∷◌, ◌++◌, Bool, true, false, ◌&&◌, ◌||◌, not, Option, Some, None, refl, sym, ◌∙◌, ap, cond, codes, is_some}
+use Rattle.std.specs.List.{list_any}
 use Rattle.std.proofs.lemmas.List.{append_assoc, append-nil}
 use Rattle.css_tokens.specs.declared.kind.Kind.TheVariants as kinds
 use Rattle.css_tokens.specs.declared.component.Component.{Component}
-use Rattle.css_tokens.specs.declared.component.Component as component
 use Rattle.css_tokens.specs.declared.component.Component.TheVariants.{outs-Single}
 use Rattle.css_tokens.specs.Piece.{Piece, Word}
 use Rattle.css_tokens.specs.NameText.{name_text}
-use Rattle.css_tokens.specs.PlainNames.{is_plain_name}
 use Rattle.css_tokens.specs.Trees.{all_formed}
-use Rattle.css_tokens.specs.Values.{value_text}
-use Rattle.css_tokens.specs.ValueAgain.{value_again, is_solid, again}
-use Rattle.css_rules.specs.declared.refusal.Refusal.{Refusal}
-use Rattle.css_rules.specs.declared.refusal.Refusal.TheVariants.{Syntax, Unbuilt}
+use Rattle.css_tokens.specs.ValueAgain.{value_again}
+use Rattle.css_rules.specs.declared.refusal.Refusal.TheVariants.{Unbuilt}
 use Rattle.css_rules.specs.declared.refusal.Sought.TheVariants.{RevertLayer, RevertLayerOrUrl}
 use Rattle.std.proofs.Math.Bool.{and-true, and-false}
 use Rattle.css_rules.specs.declared.sheet.Declaration.{Declaration}
-use Rattle.css_rules.specs.Components.{head, is_ident, is_colon, is_bang, is_braces, is_semicolon, is_gap, is_custom, is_at_keyword, is_keyword, layer_is_single, layer_head, is_ident_kind, is_gap_kind}
-use Rattle.css_rules.specs.Cuts.{Cut, cuts, trimmed, trimmed_start, trimmed_end}
+use Rattle.css_rules.specs.Components.{head, is_bang, is_braces, is_semicolon, is_gap, is_custom, is_keyword, layer_is_single, layer_head, is_ident_kind, is_gap_kind}
+use Rattle.css_rules.specs.Cuts.{cuts, trimmed, trimmed_start, trimmed_end}
 use Rattle.css_rules.specs.Declarations.{property_name, after_colon, may_be_value, is_important, value_of, declared, declared_after, declaration_of, begins_custom}
-use Rattle.css_rules.specs.Refusals.{sought_in, is_unbuilt_property}
+use Rattle.css_rules.specs.Refusals.{sought_in}
 use Rattle.css_rules.specs.Sheets.{begins_rule, item_refusals, declaration_refusals}
-use Rattle.css_rules.specs.Runs.{BareDeclaration, bare_declaration}
+use Rattle.css_rules.specs.Runs.{bare_declaration}
 use Rattle.css_rules.specs.Printable.{IsPrintableDeclaration, begins_solid}
 use Rattle.css_rules.specs.SelectorWords.{word, single_of}
-use Rattle.css_rules.specs.SheetAgain.{colon, semicolon, space, value_or_space, importance_again, declaration_again}
+use Rattle.css_rules.specs.SheetAgain.{colon, space, value_or_space, importance_again, declaration_again}
 use Rattle.css_rules.proofs.CutLemmas.{trimmed_start-gap, trimmed_start-other, trimmed_end-other, trimmed_end-gap}
 use Rattle.css_rules.proofs.CutAgain.{cuts-front, cuts-whole, any-append, trimmed_end-solid, any-trimmed_end}
 use Rattle.css_rules.proofs.Heads.{piece_of, head-Single, gap-Single, ident-Single, at-Single, colon-Single, semicolon-Single, bang-Single, braces-Single}

@@ -20,7 +20,6 @@ use Rattle.css_rules.specs.Printable.{begins_solid}
 use Rattle.css_rules.specs.ReadableSelectors.{is_spelled, is_spelled_kind}
 use Rattle.css_rules.proofs.CutLemmas.{cuts-unmarked, cuts-marked, trimmed_start-gap, trimmed_start-other}
 use Rattle.css_rules.proofs.CutAgain.{trimmed_end-solid}
-use Rattle.css_rules.proofs.FromSourceIdents.{ident-plain}
 use Rattle.css_rules.proofs.SelectorPlaces.{single-piece}
 use Rattle.css_rules.proofs.SelectorSpelling.{and-left, and-right, and-both}
 
@@ -163,7 +162,7 @@ sound-inside c e = at (out-Component c) refl
 -- The text of an Ident spells one.
 
 ident-kind : (k : Kind) (text : List ℕ) → is_ident_kind k ≡ true → is_spelled_kind k text ≡ true → is_plain_name text ≡ true
-ident-kind kinds.Ident text is e = ident-plain text e
+ident-kind kinds.Ident text is e = e
 ident-kind k text is e = absurd (false≢true is)
 
 pub sound-ident : (c : Component) → is_sound c ≡ true → is_ident c ≡ true → is_plain_name (head c).text ≡ true

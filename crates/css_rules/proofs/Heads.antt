@@ -1,14 +1,13 @@
 -- What the tests say of a token alone and of a block.
-use Rattle.std.proofs.Common.{◌≡◌, ℕ, List, [], ◌∷◌, ◌++◌, map, Bool, true, false, ◌&&◌, ◌||◌, not, refl, sym, ◌∙◌, ap, codes, cond}
-use Rattle.std.specs.List.{list_any, list_all}
+use Rattle.std.proofs.Common.{◌≡◌, List, [], ◌∷◌, map, false, ◌&&◌, ◌||◌, not, refl, ◌∙◌, ap, codes}
+use Rattle.std.specs.List.{list_any}
 use Rattle.css_tokens.specs.declared.component.Component.{Component, out-Component}
 use Rattle.css_tokens.specs.declared.component.Component as component
 use Rattle.css_tokens.specs.declared.component.Block as block
-use Rattle.css_tokens.specs.declared.component.Component.TheOpen.{Single, Block}
 use Rattle.css_tokens.specs.declared.component.Component.TheVariants.{outs-Single, outs-Block}
 use Rattle.css_tokens.specs.Piece.{Piece, Word}
 use Rattle.css_tokens.specs.Trees.{is_text}
-use Rattle.css_rules.specs.Components.{Layer, layer_head, layer_is_single, layer_items, head, inside, is_single, is_gap, is_ident, is_at_keyword, is_colon, is_semicolon, is_bang, is_braces, is_gap_kind, is_ident_kind, is_at_kind, is_colon_kind, is_semicolon_kind, is_delim_kind}
+use Rattle.css_rules.specs.Components.{layer_head, layer_is_single, layer_items, head, inside, is_gap, is_ident, is_at_keyword, is_colon, is_semicolon, is_bang, is_braces, is_gap_kind, is_ident_kind, is_at_kind, is_colon_kind, is_semicolon_kind, is_delim_kind}
 use Rattle.css_rules.specs.SelectorWords.{single_of}
 
 -- the piece of a word at the place 0

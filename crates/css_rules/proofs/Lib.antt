@@ -19,7 +19,6 @@ pub mod DeclarationAgain
 pub mod SheetRound
 pub mod PreludeAgain
 pub mod RulesAgain
-pub mod FromSourceIdents
 pub mod FromSourceNames
 pub mod FromSourceParts
 pub mod FromSourceSelectors

@@ -1,33 +1,29 @@
 -- A printed prelude, behind a line feed or not, is read as its selectors and refused for nothing.
-use Rattle.std.proofs.Common.{◌≡◌, ℕ, List, [], ◌∷◌, ◌++◌, map, flat_map, Bool, true, false, ◌&&◌, ◌||◌, not, Option, Some, None, refl, sym, ◌∙◌, ap, cond, IsTrue, codes, inl, inr, unwrap_or, is_some, find}
-use Rattle.std.specs.List.{list_any, list_all, filter_map, cons_option}
+use Rattle.std.proofs.Common.{◌≡◌, ℕ, List, [], ◌∷◌, ◌++◌, map, flat_map, Bool, true, false, ◌||◌, not, Option, Some, None, refl, sym, ◌∙◌, ap, cond, codes, unwrap_or, is_some, find}
+use Rattle.std.specs.List.{list_any, filter_map, cons_option}
 use Rattle.std.specs.Option.{option_map}
 use Rattle.css_tokens.specs.declared.kind.Kind.TheVariants as kinds
 use Rattle.css_tokens.specs.declared.component.Component.{Component}
-use Rattle.css_tokens.specs.declared.component.Component as component
 use Rattle.css_tokens.specs.declared.component.Component.TheVariants.{outs-Single}
 use Rattle.css_tokens.specs.Piece.{Piece, Word, word_of}
-use Rattle.css_tokens.specs.Trees.{words_all, pieces_all, pieces_of, pieces_of-Single}
+use Rattle.css_tokens.specs.Trees.{words_all, pieces_all, pieces_of-Single}
 use Rattle.css_rules.specs.declared.selector.Combinator.{Combinator}
 use Rattle.css_rules.specs.declared.selector.Combinator.TheVariants as combinators
 use Rattle.css_rules.specs.declared.selector.TypeName.{TypeName}
 use Rattle.css_rules.specs.declared.selector.TypeName.TheVariants as types
 use Rattle.css_rules.specs.declared.selector.Simple.{Simple}
 use Rattle.css_rules.specs.declared.selector.Simple.TheVariants as simples
-use Rattle.css_rules.specs.declared.selector.Selector.{Selector}
 use Rattle.css_rules.specs.declared.selector.sign.Sign.{Sign}
 use Rattle.css_rules.specs.declared.selector.sign.Sign.TheVariants as signs
-use Rattle.css_rules.specs.declared.refusal.Refusal.{Refusal}
 use Rattle.css_rules.specs.declared.refusal.Sought.{Sought}
 use Rattle.css_rules.specs.declared.refusal.Sought.TheVariants.{ColonOrBracket, Ampersand}
 use Rattle.css_rules.proofs.SelectorSpelling.{words-again}
 use Rattle.css_rules.specs.BareSelectors.{BareCompound, BareSelector, bare_list}
 use Rattle.css_rules.specs.Components.{is_at_keyword, is_at_kind}
 use Rattle.css_rules.specs.Signs.{sign_of, open_sign, is_gap, open_gap, is_comma, open_comma, place_of}
-use Rattle.css_rules.specs.Selectors.{list_of, list_faults, members_of, cut_at_commas, with_component, selector_of, selector_at, selector_of_runs, runs_of, empty_before, fault_of, first_place, clean_signs, stripped, spaced, white_before, Member}
-use Rattle.css_rules.specs.SelectorWords.{word, ident, hash, delim, space, comma, type_words, simple_words, compound_words, child_words, combinator_words, links_words, lead_words, selector_words, more_words, list_words, single_of, list_again}
+use Rattle.css_rules.specs.Selectors.{list_of, list_faults, cut_at_commas, with_component, selector_of, selector_at, selector_of_runs, runs_of, empty_before, fault_of, first_place, stripped, spaced, white_before, Member}
+use Rattle.css_rules.specs.SelectorWords.{word, ident, hash, delim, space, comma, type_words, simple_words, compound_words, combinator_words, links_words, lead_words, selector_words, more_words, list_words, single_of, list_again}
 use Rattle.css_rules.specs.SelectorTexts.{compound_text, ends_in_dashes}
-use Rattle.css_rules.specs.ReadableSelectors.{is_readable_list}
 use Rattle.css_rules.specs.Refusals.{sought_in}
 use Rattle.css_rules.specs.Sheets.{prelude_refusals, prelude_refusals_by, first_fault}
 use Rattle.css_rules.specs.SheetAgain.{line_feed}

@@ -1,14 +1,13 @@
 -- A printed sheet is read as that sheet, rule by rule.
-use Rattle.std.proofs.Common.{◌≡◌, ℕ, List, [], ◌∷◌, ◌++◌, map, flat_map, Bool, true, false, ◌&&◌, ◌||◌, not, Option, Some, None, refl, sym, ◌∙◌, ap, subst, cond, IsTrue, codes}
-use Rattle.std.specs.List.{list_any, list_all, AllByRecursion}
+use Rattle.std.proofs.Common.{◌≡◌, ℕ, List, [], ◌∷◌, ◌++◌, map, flat_map, Bool, true, false, ◌||◌, Some, None, refl, sym, ◌∙◌, ap, subst, cond, IsTrue, codes}
+use Rattle.std.specs.List.{list_any, AllByRecursion}
 use Rattle.std.proofs.lemmas.List.{append_assoc, append-nil}
 use Rattle.css_tokens.specs.declared.kind.Kind.TheVariants as kinds
 use Rattle.css_tokens.specs.declared.component.Component.{Component}
-use Rattle.css_tokens.specs.declared.component.Component as component
 use Rattle.css_tokens.specs.declared.component.Block as block
 use Rattle.css_tokens.specs.Trees.{words_all}
 use Rattle.css_rules.specs.declared.refusal.Refusal.{Refusal}
-use Rattle.css_rules.specs.declared.refusal.Refusal.TheVariants.{Syntax, Unbuilt}
+use Rattle.css_rules.specs.declared.refusal.Refusal.TheVariants.{Unbuilt}
 use Rattle.css_rules.specs.declared.sheet.Declaration.{Declaration}
 use Rattle.css_rules.specs.declared.sheet.Item.{Item}
 use Rattle.css_rules.specs.declared.sheet.Item as item
@@ -21,11 +20,11 @@ use Rattle.css_rules.specs.Cuts.{Cut, cuts, trimmed, trimmed_start, trimmed_end}
 use Rattle.css_rules.specs.Selectors.{list_of, list_faults}
 use Rattle.css_rules.specs.ReadableSelectors.{is_readable_list}
 use Rattle.css_rules.specs.SelectorWords.{word, list_words, list_again}
-use Rattle.css_rules.specs.Sheets.{declarations_of, run_of, rule_of, rules_of, sheet_of, block_refusals, prelude_refusals, leftover_refusals, rule_refusals, rule_refusals_by, begins_at_rule, first_place, sheet_refusals}
-use Rattle.css_rules.specs.Runs.{Run, BareRun, BareDeclaration, bare_run, bare_declaration, runs_within, runs_of, bare_runs, runs_within-Plain, runs_within-Style}
+use Rattle.css_rules.specs.Sheets.{declarations_of, run_of, rule_of, sheet_of, block_refusals, leftover_refusals, rule_refusals, rule_refusals_by, begins_at_rule, first_place, sheet_refusals}
+use Rattle.css_rules.specs.Runs.{Run, BareRun, BareDeclaration, bare_run, bare_declaration, runs_within, bare_runs, runs_within-Plain, runs_within-Style}
 use Rattle.css_rules.specs.Printable.{IsPrintable, IsPrintableDeclaration, ArePrintable, is_nesting}
 use Rattle.css_rules.specs.SheetTexts.{innermost}
-use Rattle.css_rules.specs.SheetAgain.{line_feed, declarations_again, block_again, run_again, sheet_again}
+use Rattle.css_rules.specs.SheetAgain.{line_feed, declarations_again, block_again, sheet_again}
 use Rattle.css_rules.proofs.CutLemmas.{trimmed_start-gap}
 use Rattle.css_rules.proofs.CutAgain.{cuts-front, cuts-whole, any-append, any-trimmed_end}
 use Rattle.css_rules.proofs.DeclarationLemmas.{or_false_left, or_false_right}

@@ -1,19 +1,17 @@
 -- A printed sheet is read as that sheet.
-use Rattle.std.proofs.Common.{◌≡◌, ℕ, List, [], ◌∷◌, ◌++◌, map, flat_map, Bool, true, false, ◌&&◌, ◌||◌, not, Option, Some, None, refl, sym, ◌∙◌, ap, cond, IsTrue, codes}
-use Rattle.std.specs.List.{list_any, list_all, AllByRecursion}
+use Rattle.std.proofs.Common.{◌≡◌, ℕ, List, [], ◌∷◌, ◌++◌, map, flat_map, true, refl, ◌∙◌, ap, IsTrue, codes}
+use Rattle.std.specs.List.{AllByRecursion}
 use Rattle.std.specs.Option.{option_to_list}
-use Rattle.std.proofs.lemmas.List.{append_assoc, append-nil}
+use Rattle.std.proofs.lemmas.List.{append-nil}
 use Rattle.css_tokens.specs.declared.component.Component.{Component}
-use Rattle.css_tokens.specs.declared.component.Component as component
 use Rattle.css_tokens.specs.NameText.{name_text}
 use Rattle.css_tokens.specs.PlainNames.{is_plain_name}
-use Rattle.css_rules.specs.declared.refusal.Refusal.{Refusal}
 use Rattle.css_rules.specs.declared.sheet.Declaration.{Declaration}
-use Rattle.css_rules.specs.Components.{is_semicolon, is_braces}
-use Rattle.css_rules.specs.Cuts.{Cut, cuts, trimmed}
+use Rattle.css_rules.specs.Components.{is_semicolon}
+use Rattle.css_rules.specs.Cuts.{cuts, trimmed}
 use Rattle.css_rules.specs.Declarations.{declaration_of}
 use Rattle.css_rules.specs.Sheets.{declarations_of, item_refusals, block_refusals}
-use Rattle.css_rules.specs.Runs.{Run, bare_declaration}
+use Rattle.css_rules.specs.Runs.{bare_declaration}
 use Rattle.css_rules.specs.Printable.{IsPrintableDeclaration}
 use Rattle.css_rules.specs.SheetAgain.{semicolon, declaration_again, more_again, declarations_again}
 use Rattle.css_rules.specs.SelectorWords.{word}

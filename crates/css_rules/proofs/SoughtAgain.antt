@@ -1,19 +1,17 @@
 -- What is not sought in a value is not sought in its printed form.
-use Rattle.std.proofs.Common.{◌≡◌, ℕ, List, [], ◌∷◌, ◌++◌, map, Bool, true, false, ◌&&◌, ◌||◌, not, Option, Some, None, refl, sym, ◌∙◌, ap, cond, IsTrue, inl, inr, ◌⊎◌, find, codes}
-use Rattle.std.specs.List.{list_any, list_all}
+use Rattle.std.proofs.Common.{◌≡◌, ℕ, List, [], ◌∷◌, map, Bool, true, false, ◌&&◌, ◌||◌, Some, None, refl, sym, ◌∙◌, ap, cond, inl, inr, find}
+use Rattle.std.specs.List.{list_any}
 use Rattle.std.proofs.lemmas.Bool.{cases_Bool}
 use Rattle.css_tokens.specs.declared.kind.Kind.{Kind}
 use Rattle.css_tokens.specs.declared.kind.Kind.TheVariants as kinds
 use Rattle.css_tokens.specs.declared.component.Component.{Component}
 use Rattle.css_tokens.specs.Piece.{Piece, Word, word_of}
 use Rattle.css_tokens.specs.Trees.{pieces_all, words_all, all_formed}
-use Rattle.css_tokens.specs.Values.{is_gap, is_white, short_text, short_word, before_run, single_gaps, after_gap, before_gap, word_kind, printed_words, value_words}
+use Rattle.css_tokens.specs.Values.{is_gap, is_white, short_text, short_word, before_run, single_gaps, after_gap, before_gap, word_kind, printed_words}
 use Rattle.css_tokens.specs.ValueAgain.{value_again}
-use Rattle.css_rules.specs.declared.refusal.Refusal.{Refusal}
-use Rattle.css_rules.specs.declared.refusal.Refusal.TheVariants.{Syntax, Unbuilt}
 use Rattle.css_rules.specs.declared.refusal.Sought.{Sought}
 use Rattle.css_rules.specs.declared.refusal.Sought.TheVariants.{ColonOrBracket, Ampersand, RevertLayer, RevertLayerOrUrl}
-use Rattle.css_rules.specs.Refusals.{is_sought, is_colon_or_bracket, is_ampersand, is_revert_layer, is_url, unbuilt_at, sought_in}
+use Rattle.css_rules.specs.Refusals.{is_sought, unbuilt_at, sought_in}
 use Rattle.css_rules.proofs.DeclarationLemmas.{or_false_left, or_false_right}
 use Rattle.css_rules.proofs.ValueFacts.{ValueLaws}
 

@@ -1,6 +1,6 @@
 -- What the components of a printed value have in common with those of the value.
-use Rattle.std.proofs.Common.{◌≡◌, ℕ, List, [], ◌∷◌, ◌++◌, map, Bool, true, false, ◌&&◌, ◌||◌, not, Option, Some, None, refl, sym, ◌∙◌, ap, cond, IsTrue, filter, inl, inr, ◌⊎◌, find, codes}
-use Rattle.std.specs.List.{list_any, list_all}
+use Rattle.std.proofs.Common.{◌≡◌, ℕ, List, [], ◌∷◌, ◌++◌, map, Bool, true, false, ◌&&◌, ◌||◌, not, refl, sym, ◌∙◌, ap, cond, IsTrue, filter, inl, inr, ◌⊎◌, codes}
+use Rattle.std.specs.List.{list_any}
 use Rattle.std.proofs.lemmas.Bool.{cases_Bool}
 use Rattle.css_tokens.specs.declared.kind.Kind.{Kind}
 use Rattle.css_tokens.specs.declared.kind.Kind.TheVariants as kinds
@@ -9,15 +9,14 @@ use Rattle.css_tokens.specs.declared.component.Component as component
 use Rattle.css_tokens.specs.declared.component.Block as block
 use Rattle.css_tokens.specs.declared.component.Component.TheOpen.{Single, Block}
 use Rattle.css_tokens.specs.declared.component.Component.TheVariants.{rolls-Single, rolls-Block}
-use Rattle.css_tokens.specs.Piece.{Piece, Word, word_of}
-use Rattle.css_tokens.specs.Trees.{pieces_all, words_all, all_formed, is_formed, opens, is_formed-Block, is_text}
-use Rattle.css_tokens.specs.Values.{is_gap as is_gap_word, is_white, short_text, short_word, before_run, single_gaps, after_gap, before_gap, word_kind, printed_words, value_words, value_text}
-use Rattle.css_tokens.specs.ValueAgain.{head_kind, is_solid, short_piece, again, all_again, value_again, head_kind-Single, head_kind-Block, again-Single, again-Block}
+use Rattle.css_tokens.specs.Piece.{Piece}
+use Rattle.css_tokens.specs.Trees.{words_all, all_formed, is_formed, opens, is_formed-Block, is_text}
+use Rattle.css_tokens.specs.Values.{is_gap as is_gap_word, short_text, value_words, value_text}
+use Rattle.css_tokens.specs.ValueAgain.{is_solid, short_piece, again, all_again, value_again, head_kind-Single, head_kind-Block, again-Single, again-Block}
 use Rattle.css_rules.specs.Components.{Layer, is_gap, is_semicolon, is_bang, is_braces, is_gap_kind, is_semicolon_kind, is_delim_kind}
-use Rattle.css_rules.specs.Cuts.{trimmed, trimmed_start, trimmed_end}
-use Rattle.css_rules.specs.Printable.{begins_solid}
+use Rattle.css_rules.specs.Cuts.{trimmed, trimmed_end}
 use Rattle.css_rules.proofs.CutLemmas.{trimmed_start-other, trimmed_end-other}
-use Rattle.css_rules.proofs.CutAgain.{last_of, trimmed_end-solid}
+use Rattle.css_rules.proofs.CutAgain.{last_of}
 use Rattle.css_rules.proofs.Heads.{gap-Single, gap-Block, semicolon-Single, semicolon-Block, bang-Single, bang-Block, braces-Single, braces-Block}
 
 -- what the token crate ensures of printed values

@@ -18,3 +18,4 @@ pub mod Runs
 pub mod SheetTexts
 pub mod SheetAgain
 pub mod Printable
+pub mod Standing

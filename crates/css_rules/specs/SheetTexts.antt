@@ -1,5 +1,5 @@
 -- How a sheet prints (CSSOM, sections 6.4 and 6.7; this project's own choice of white space).
-use Rattle.std.specs.Prelude.{ℕ, List, [], ◌∷◌, ◌++◌, map, flat_map, Bool, codes, if◌then◌else◌}
+use Rattle.std.specs.Prelude.{ℕ, List, [], ◌∷◌, ◌++◌, flat_map, Bool, codes, if◌then◌else◌}
 use Rattle.css_tokens.specs.declared.component.Component.{Component}
 use Rattle.css_tokens.specs.NameText.{name_text}
 use Rattle.css_tokens.specs.Values.{value_text}

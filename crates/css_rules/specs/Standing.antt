@@ -1,0 +1,18 @@
+-- Values as they stand in a text.
+use Rattle.std.specs.Prelude.{ℕ, List, ◌++◌, ◌≡◌, true}
+use Rattle.std.specs.List.{AllByRecursion}
+use Rattle.css_tokens.specs.Again.{is_stop}
+use Rattle.css_tokens.specs.Piece.{spelled}
+use Rattle.css_tokens.specs.Tokens.{ReadsTo, classes_of}
+use Rattle.css_tokens.specs.Trees.{words_all}
+use Rattle.css_rules.specs.declared.sheet.Declaration.{Declaration}
+use Rattle.css_rules.specs.Runs.{Run}
+
+-- the tokens of its value are read one after another in some text, before a stop
+pub record Stands (d : Declaration) : Type 0 where
+  pub behind : List ℕ
+  pub stop : is_stop (classes_of behind) ≡ true
+  pub reads : ReadsTo (spelled (words_all d.value) ++ behind) (words_all d.value) behind
+
+abbrev pub AllStand : List Run → Type 0
+AllStand runs = AllByRecursion (λ (run : Run). AllByRecursion Stands run.declarations) runs
