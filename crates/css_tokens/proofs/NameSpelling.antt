@@ -1,10 +1,9 @@
 -- Which texts spell an Ident or a Hash in ASCII without escapes, and what may stand next to them.
-use Rattle.std.proofs.Common.{◌≡◌, ℕ, ◌<◌, List, [], ◌∷◌, ◌++◌, map, Bool, true, false, not, ◌&&◌, ◌||◌, ltb, eqb, nat_eq, cond, refl, sym, ap, ap₂, ◌∙◌, subst, inl, inr, Option, Some, None, codes}
-use Rattle.std.specs.List.{list_all, list_any}
-use Rattle.std.proofs.lemmas.Bool.{cases_Bool, and_parts, or_cases, not-true, eqb-true, ltb-true, lt-ltb, false≢true, agree_below_at}
+use Rattle.std.proofs.Common.{◌≡◌, ℕ, ◌<◌, List, [], ◌∷◌, ◌++◌, Bool, true, false, not, ◌&&◌, ◌||◌, ltb, eqb, cond, refl, sym, ap, ap₂, ◌∙◌, subst, inl, inr, Some, None, codes}
+use Rattle.std.specs.List.{list_all}
+use Rattle.std.proofs.lemmas.Bool.{cases_Bool, and_parts, not-true, eqb-true, ltb-true, lt-ltb, false≢true, agree_below_at}
 use Rattle.css_tokens.specs.declared.class.Class.{Class}
 use Rattle.css_tokens.specs.declared.class.Class.TheVariants as class
-use Rattle.css_tokens.specs.declared.kind.Kind.{Kind}
 use Rattle.css_tokens.specs.declared.kind.Kind.TheVariants as kind
 use Rattle.css_tokens.specs.declared.machine.State.{State}
 use Rattle.css_tokens.specs.declared.machine.State.TheVariants as state
@@ -22,7 +21,7 @@ use Rattle.css_tokens.proofs.MachineRows.{each_class}
 use Rattle.css_tokens.proofs.PlainNameLemmas.{plain-ascii, start-plain}
 use Rattle.css_tokens.proofs.Rebuilt.{both}
 use Rattle.css_tokens.proofs.Runs.{run, kind_of-run, one_more}
-use Rattle.css_tokens.proofs.Stays.{stays_by, names-eq, not_function}
+use Rattle.css_tokens.proofs.Stays.{stays_by, not_function}
 
 -- The classes of ASCII characters.
 
