@@ -48,6 +48,9 @@ white_dies x h = refl
 pub space_stays : (rest : List ℕ) → begins_none white rest ≡ true → StaysFirst (word_from kind.White (codes " ")) rest
 space_stays rest h = stays_by (codes " ") kind.White white rest white_dies refl (λ after. refl) refl h
 
+pub feed_stays : (rest : List ℕ) → begins_none white rest ≡ true → StaysFirst (word_from kind.White (10 ∷ [])) rest
+feed_stays rest h = stays_by (10 ∷ []) kind.White white rest white_dies refl (λ after. refl) refl h
+
 -- the state that a spelled word comes to has its kind
 pub names-eq : (k : Kind) (o : Option Kind) → names k o ≡ true → o ≡ Some k
 names-eq k None h = cc

@@ -28,6 +28,7 @@ pub fn words_again()
     ensures dot { (rest : List ℕ) → begins_none digit rest ≡ true → StaysFirst (word_from kind.Delim (codes ".")) rest }
     ensures plus { (rest : List ℕ) → begins_none digit_or_dot rest ≡ true → StaysFirst (word_from kind.Delim (codes "+")) rest }
     ensures space { (rest : List ℕ) → begins_none white rest ≡ true → StaysFirst (word_from kind.White (codes " ")) rest }
+    ensures feed { (rest : List ℕ) → begins_none white rest ≡ true → StaysFirst (word_from kind.White (10 ∷ [])) rest }
     ensures ident { (u rest : List ℕ) → spells kind.Ident u ≡ true → begins_none after_ident rest ≡ true → StaysFirst (word_from kind.Ident u) rest }
     ensures hash { (u rest : List ℕ) → spells kind.Hash u ≡ true → begins_none name rest ≡ true → StaysFirst (word_from kind.Hash u) rest }
     ensures at { (u rest : List ℕ) → spells kind.At u ≡ true → begins_none name rest ≡ true → StaysFirst (word_from kind.At u) rest }

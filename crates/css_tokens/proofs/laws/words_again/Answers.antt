@@ -1,7 +1,7 @@
 use Rattle.std.proofs.Common.{◌++◌}
 use Rattle.css_tokens.specs.Piece.{spelled}
 use Rattle.css_tokens.proofs.Again.{keeps, composes, marks_stay}
-use Rattle.css_tokens.proofs.Stays.{dot_stays, plus_stays, space_stays, ident_stays, hash_stays, at_stays, string_stays, function_stays, url_stays}
+use Rattle.css_tokens.proofs.Stays.{dot_stays, plus_stays, space_stays, feed_stays, ident_stays, hash_stays, at_stays, string_stays, function_stays, url_stays}
 use Rattle.css_tokens.proofs.laws.words_again.Goals as goal
 
 pub returns : goal.returns
@@ -12,6 +12,7 @@ returns c = record {
   dot = dot_stays;
   plus = plus_stays;
   space = space_stays;
+  feed = feed_stays;
   ident = ident_stays;
   hash = hash_stays;
   at = at_stays;
