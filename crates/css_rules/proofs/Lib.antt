@@ -24,3 +24,4 @@ pub mod FromSourceParts
 pub mod FromSourceSelectors
 pub mod FromSourceDeclarations
 pub mod FromSourceRules
+pub mod SheetSpelled

@@ -109,7 +109,7 @@ trimmed-lead : (b : Bool) → trimmed (lead_of b) ≡ []
 trimmed-lead true = ap trimmed_end (trimmed_start-gap line_feed [] (gap-Single (piece_of (word kinds.White (10 ∷ [])))))
 trimmed-lead false = refl
 
-abbrev brace_of : List Declaration → block.Block
+abbrev pub brace_of : List Declaration → block.Block
 brace_of ds = record { opening = record { kind = kinds.Open; text = codes "{"; at = 0 }; items = declarations_again ds; close = 0 }
 
 abbrev runs_in : List Item → List Run
