@@ -18,3 +18,8 @@ pub mod DeclarationAgain
 pub mod SheetRound
 pub mod PreludeAgain
 pub mod RulesAgain
+pub mod PlacesTrees
+pub mod PlacesLayers
+pub mod PlacesSelectors
+pub mod PlacesCuts
+pub mod Places
