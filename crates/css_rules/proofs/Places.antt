@@ -1,10 +1,9 @@
 -- What a sheet says does not depend on the places of its tokens.
-use Rattle.std.proofs.Common.{◌≡◌, ℕ, List, [], ◌∷◌, ◌++◌, map, flat_map, Option, Some, None, option_map, refl, sym, ◌∙◌, ap, IsTrue}
+use Rattle.std.proofs.Common.{◌≡◌, List, [], ◌∷◌, ◌++◌, map, flat_map, Option, Some, None, option_map, refl, sym, ◌∙◌, ap, IsTrue}
 use Rattle.std.proofs.lemmas.List.{map-append, append-nil}
 use Rattle.std.proofs.lemmas.Grind.{flat_map-append}
 use Rattle.css_tokens.specs.declared.component.Component.{Component}
 use Rattle.css_tokens.specs.Trees.{words_all, all_formed}
-use Rattle.css_rules.specs.declared.selector.Selector.{Selector}
 use Rattle.css_rules.specs.declared.sheet.Declaration.{Declaration}
 use Rattle.css_rules.specs.declared.sheet.Item.{Item}
 use Rattle.css_rules.specs.declared.sheet.Item as item
@@ -18,7 +17,7 @@ use Rattle.css_rules.specs.Runs.{Run, BareRun, BareDeclaration, bare_run, bare_r
 use Rattle.css_rules.proofs.PlacesTrees.{erased, OnePairing, same-erased}
 use Rattle.css_rules.proofs.PlacesLayers.{inside-erased, braces-erased}
 use Rattle.css_rules.proofs.PlacesSelectors.{list-erased}
-use Rattle.css_rules.proofs.PlacesCuts.{erased_cut, cuts-erased, erased_declaration, declarations-erased, bares-erased}
+use Rattle.css_rules.proofs.PlacesCuts.{erased_cut, cuts-erased, declarations-erased, bares-erased}
 
 abbrev item_runs : Item → List Run
 item_runs item = runs_within item []

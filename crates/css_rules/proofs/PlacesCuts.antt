@@ -1,17 +1,16 @@
 -- Cuts and declarations are the same but for places where the places of their tokens are at 0.
-use Rattle.std.proofs.Common.{◌≡◌, ℕ, List, [], ◌∷◌, ◌++◌, map, flat_map, Bool, true, false, ◌&&◌, ◌||◌, not, Option, Some, None, refl, sym, ◌∙◌, ap, cond, codes, option_map}
+use Rattle.std.proofs.Common.{◌≡◌, List, [], ◌∷◌, ◌++◌, map, flat_map, Bool, true, false, ◌&&◌, ◌||◌, not, Option, Some, None, refl, sym, ◌∙◌, ap, cond, codes, option_map}
 use Rattle.std.specs.List.{list_any, list_all}
 use Rattle.std.specs.Option.{option_to_list}
 use Rattle.std.proofs.lemmas.List.{map-append}
 use Rattle.css_tokens.specs.declared.component.Component.{Component}
 use Rattle.css_tokens.specs.Piece.{Piece}
-use Rattle.css_tokens.specs.Values.{value_text}
 use Rattle.css_rules.specs.declared.sheet.Declaration.{Declaration}
 use Rattle.css_rules.specs.Components.{head, is_gap, is_ident, is_colon, is_semicolon, is_bang, is_braces, is_custom, is_keyword}
 use Rattle.css_rules.specs.Cuts.{Cut, cuts, with_front, trimmed, trimmed_start, trimmed_end}
 use Rattle.css_rules.specs.Declarations.{property_name, after_colon, may_be_value, is_important, value_of, declared, declared_after, declaration_of}
 use Rattle.css_rules.specs.Sheets.{declarations_of}
-use Rattle.css_rules.specs.Runs.{BareDeclaration, bare_declaration}
+use Rattle.css_rules.specs.Runs.{bare_declaration}
 use Rattle.css_rules.proofs.PlacesTrees.{placeless, erased, text-erased}
 use Rattle.css_rules.proofs.PlacesLayers.{head-erased, gap-erased, ident-erased, colon-erased, semicolon-erased, bang-erased, braces-erased}
 

@@ -1,8 +1,6 @@
 -- Tests of a component see no difference where its places are at 0.
-use Rattle.std.proofs.Common.{◌≡◌, List, map, Bool, true, false, ◌&&◌, not, refl, sym, ◌∙◌, ap, inl, inr, codes}
+use Rattle.std.proofs.Common.{◌≡◌, map, Bool, ◌&&◌, not, refl, sym, ◌∙◌, ap, inl, inr, codes}
 use Rattle.css_tokens.specs.declared.component.Component.{Component, out-Component}
-use Rattle.css_tokens.specs.declared.component.Component as component
-use Rattle.css_tokens.specs.declared.component.Block as block
 use Rattle.css_tokens.specs.declared.component.Component.TheOpen.{Single, Block}
 use Rattle.css_tokens.specs.declared.component.Component.TheVariants.{outs-Single, outs-Block}
 use Rattle.css_tokens.specs.Piece.{Piece}
@@ -19,9 +17,9 @@ erased_layer (Block b) = Block (erased_block b)
 
 out-erased : (c : Component) → out-Component (erased c) ≡ erased_layer (out-Component c)
 out-erased c = elim (shape_of c) [
-    inl s ↦ ap (λ d. out-Component (erased d)) s.1 ∙ ap out-Component (erased-Single s.0) ∙ outs-Single (placeless s.0) ∙ ap erased_layer (sym (outs-Single s.0)) ∙ ap (λ d. erased_layer (out-Component d)) (sym s.1)
+  | inl s ↦ ap (λ d. out-Component (erased d)) s.1 ∙ ap out-Component (erased-Single s.0) ∙ outs-Single (placeless s.0) ∙ ap erased_layer (sym (outs-Single s.0)) ∙ ap (λ d. erased_layer (out-Component d)) (sym s.1)
   | inr b ↦ ap (λ d. out-Component (erased d)) b.1 ∙ ap out-Component (erased-Block b.0) ∙ outs-Block (erased_block b.0) ∙ ap erased_layer (sym (outs-Block b.0)) ∙ ap (λ d. erased_layer (out-Component d)) (sym b.1)
-  ]
+]
 
 head-layer : (v : Layer) → layer_head (erased_layer v) ≡ placeless (layer_head v)
 head-layer (Single p) = refl

@@ -1,5 +1,5 @@
 -- Components with each place at 0: what holds of a component from what holds of those in it, and its tokens.
-use Rattle.std.proofs.Common.{◌≡◌, ℕ, List, [], ◌∷◌, ◌++◌, map, Bool, ◌&&◌, not, refl, sym, ◌∙◌, ap, subst, IsTrue}
+use Rattle.std.proofs.Common.{◌≡◌, List, [], ◌∷◌, ◌++◌, map, ◌&&◌, refl, sym, ◌∙◌, ap, subst, IsTrue}
 use Rattle.std.proofs.lemmas.List.{map-append}
 use Rattle.css_tokens.specs.declared.component.Component.{Component, roll-Component, ind-Component}
 use Rattle.css_tokens.specs.declared.component.Component as component
@@ -7,10 +7,9 @@ use Rattle.css_tokens.specs.declared.component.Block as block
 use Rattle.css_tokens.specs.declared.component.Component.TheOpen.{Component-F, Single, Block, Block-F}
 use Rattle.css_tokens.specs.declared.component.Component.TheFolds.{fold-Component, fold_out-Component}
 use Rattle.css_tokens.specs.declared.component.Component.TheVariants.{outs-Single, outs-Block, rolls-Single, rolls-Block}
-use Rattle.css_tokens.specs.Piece.{Piece, Word, word_of}
-use Rattle.css_tokens.specs.Trees.{opens, closes, closing, pieces_of, pieces_all, words_all, is_formed, all_formed, pieces_of-Single, pieces_of-Block, is_formed-Single, is_formed-Block}
+use Rattle.css_tokens.specs.Piece.{Piece, word_of, spelled}
+use Rattle.css_tokens.specs.Trees.{opens, closing, pieces_of, pieces_all, words_all, is_formed, all_formed, pieces_of-Single, pieces_of-Block, is_formed-Single, is_formed-Block}
 use Rattle.css_tokens.specs.Values.{value_text, printed_words}
-use Rattle.css_tokens.specs.Piece.{spelled}
 use Rattle.css_rules.proofs.Heads.{piece_of}
 
 -- Induction.
