@@ -19,6 +19,10 @@ abbrev pub Each : (P : Component → Type 0) → List Component → Type 0
 Each P [] = Unit {0}
 Each P (c ∷ cs) = P c × Each P cs
 
+every : (P : Component → Type 0) → ((c : Component) → P c) → (cs : List Component) → Each P cs
+every P holds [] = tt
+every P holds (c ∷ cs) = (holds c, every P holds cs)
+
 each_of : (P : Component → Type 0) (ys : List ((c : Component) × P c)) → Each P (map (λ e. e.0) ys)
 each_of P [] = tt
 each_of P (y ∷ ys) = (y.1, each_of P ys)
@@ -98,11 +102,7 @@ pieces-erased : (c : Component) → HasPieces c
 pieces-erased = by_components HasPieces (λ p. ap pieces_of (erased-Single p) ∙ pieces_of-Single (placeless p) ∙ ap (map placeless) (sym (pieces_of-Single p))) pieces-block
 
 pieces_all-erased : (cs : List Component) → pieces_all (map erased cs) ≡ map placeless (pieces_all cs)
-pieces_all-erased [] = refl
-pieces_all-erased (c ∷ cs) =
-    ap (λ ps. ps ++ pieces_all (map erased cs)) (pieces-erased c)
-    ∙ ap (λ ps. map placeless (pieces_of c) ++ ps) (pieces_all-erased cs)
-    ∙ sym (map-append placeless (pieces_of c) (pieces_all cs))
+pieces_all-erased cs = pieces-each cs (every HasPieces pieces-erased cs)
 
 words-placeless : (ps : List Piece) → map word_of (map placeless ps) ≡ map word_of ps
 words-placeless [] = refl
@@ -135,8 +135,7 @@ formed-erased : (c : Component) → StaysFormed c
 formed-erased = by_components StaysFormed (λ p. ap is_formed (erased-Single p) ∙ is_formed-Single (placeless p) ∙ sym (is_formed-Single p)) formed-block
 
 all_formed-erased : (cs : List Component) → all_formed (map erased cs) ≡ all_formed cs
-all_formed-erased [] = refl
-all_formed-erased (c ∷ cs) = ap (λ b. b && all_formed (map erased cs)) (formed-erased c) ∙ ap (λ b. is_formed c && b) (all_formed-erased cs)
+all_formed-erased cs = formed-each cs (every StaysFormed formed-erased cs)
 
 -- what is ensured of tokens: they make one list of components at most
 abbrev pub OnePairing : Type 0
