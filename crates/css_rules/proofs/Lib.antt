@@ -25,3 +25,8 @@ pub mod FromSourceSelectors
 pub mod FromSourceDeclarations
 pub mod FromSourceRules
 pub mod SheetSpelled
+pub mod PlacesTrees
+pub mod PlacesLayers
+pub mod PlacesSelectors
+pub mod PlacesCuts
+pub mod Places

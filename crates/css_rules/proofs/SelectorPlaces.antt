@@ -245,7 +245,7 @@ delim-unplaced false false false false true f at = refl
 delim-unplaced false false false false false true at = refl
 delim-unplaced false false false false false false at = refl
 
-sign-unplaced : (k : Kind) (text : List ℕ) (at : ℕ) → unplaced (kind_sign k text at) ≡ kind_sign k text 0
+pub sign-unplaced : (k : Kind) (text : List ℕ) (at : ℕ) → unplaced (kind_sign k text at) ≡ kind_sign k text 0
 sign-unplaced kinds.Hash text at = id-unplaced (is_plain_name (drop 1 text)) (drop 1 text) at
 sign-unplaced kinds.Delim text at = delim-unplaced (is_text text (codes ">")) (is_text text (codes "+")) (is_text text (codes "~")) (is_text text (codes "*")) (is_text text (codes ".")) (is_text text (codes "&")) at
 sign-unplaced kinds.White text at = refl
@@ -329,21 +329,21 @@ tail-plain c cs h =
 
 -- Members.
 
-abbrev member_signs : Member → List Sign
+abbrev pub member_signs : Member → List Sign
 member_signs m = map unplaced (map sign_of m.components)
 
-abbrev both_signs : Member × List Member → List Sign × List (List Sign)
+abbrev pub both_signs : Member × List Member → List Sign × List (List Sign)
 both_signs parts = (member_signs parts.0, map member_signs parts.1)
 
-abbrev parts_at : Component → List Component → Bool → Member × List Member
+abbrev pub parts_at : Component → List Component → Bool → Member × List Member
 parts_at c cs b =
     if b then (empty_before (Some (place_of c)), (cut_at_commas cs).0 ∷ (cut_at_commas cs).1)
     else (with_component c (cut_at_commas cs).0, (cut_at_commas cs).1)
 
-abbrev cut_at : Sign → Bool → List Sign × List (List Sign) → List Sign × List (List Sign)
+abbrev pub cut_at : Sign → Bool → List Sign × List (List Sign) → List Sign × List (List Sign)
 cut_at w b parts = if b then ([], parts.0 ∷ parts.1) else (w ∷ parts.0, parts.1)
 
-both-at : (c : Component) (cs : List Component) (b : Bool) → both_signs (parts_at c cs b) ≡ cut_at (unplaced (sign_of c)) b (both_signs (cut_at_commas cs))
+pub both-at : (c : Component) (cs : List Component) (b : Bool) → both_signs (parts_at c cs b) ≡ cut_at (unplaced (sign_of c)) b (both_signs (cut_at_commas cs))
 both-at c cs true = refl
 both-at c cs false = refl
 
@@ -366,7 +366,7 @@ map-cons : (o : Option Selector) (ss : List Selector) → bare_list (cons_option
 map-cons None ss = refl
 map-cons (Some s) ss = refl
 
-list-read : (ms : List Member) → bare_list (filter_map (λ m. selector_of m.components) ms) ≡ filter_map reading_of (map member_signs ms)
+pub list-read : (ms : List Member) → bare_list (filter_map (λ m. selector_of m.components) ms) ≡ filter_map reading_of (map member_signs ms)
 list-read [] = refl
 list-read (m ∷ ms) =
     map-cons (selector_of m.components) (filter_map (λ x. selector_of x.components) ms)

@@ -4,12 +4,14 @@
 mod cuts;
 mod declaration;
 mod parts;
+mod places_law;
 mod reader;
 mod refusal;
 pub mod selector;
 mod sheet;
 mod sheet_laws;
 
+pub use places_law::places_do_not_matter;
 pub use reader::RuleFault;
 pub use refusal::{Refusal, Sought};
 pub use sheet::{Declaration, Item, Sheet, Style};

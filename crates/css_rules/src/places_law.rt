@@ -1,0 +1,13 @@
+//! A law about the definitions of this crate, the contract of a function that does nothing.
+ghost use Rattle.css_rules.specs.Runs.{bare_runs};
+ghost use Rattle.css_rules.specs.Sheets.{sheet_of};
+ghost use Rattle.css_tokens.specs.Trees.{all_formed, words_all};
+ghost use Rattle.css_tokens.specs.declared.component.Component.{Component};
+ghost use Rattle.std.specs.Prelude.{◌≡◌, List, IsTrue};
+
+/// What a sheet says does not depend on where its tokens stand: sheets of the same words say the same.
+pub fn places_do_not_matter()
+    ensures { (a b : List Component) → words_all a ≡ words_all b → IsTrue (all_formed a) → IsTrue (all_formed b) → bare_runs (sheet_of a) ≡ bare_runs (sheet_of b) }
+{
+    css_tokens::one_pairing();
+}
