@@ -30,3 +30,4 @@ pub mod PlacesLayers
 pub mod PlacesSelectors
 pub mod PlacesCuts
 pub mod Places
+pub mod SheetReads

@@ -62,16 +62,16 @@ cuts-sheet b (run ∷ runs) =
     ∙ ap (λ rest. record { front = lead_of b ++ list; mark = Some brace } ∷ rest) (cuts-sheet true runs)
 
 -- a printable run with its one list and its declarations in sight
-record IsMade (run : Run) : Type 0 where
-  list : List BareSelector
-  first : Declaration
-  more : List Declaration
-  is : run ≡ record { chain = list ∷ []; declarations = first ∷ more }
-  readable : IsTrue (is_readable_list list)
-  unnested : list_any is_nesting list ≡ false
-  each : AllByRecursion IsPrintableDeclaration (first ∷ more)
+pub record IsMade (run : Run) : Type 0 where
+  pub list : List BareSelector
+  pub first : Declaration
+  pub more : List Declaration
+  pub is : run ≡ record { chain = list ∷ []; declarations = first ∷ more }
+  pub readable : IsTrue (is_readable_list list)
+  pub unnested : list_any is_nesting list ≡ false
+  pub each : AllByRecursion IsPrintableDeclaration (first ∷ more)
 
-made : (run : Run) → IsPrintable run → IsMade run
+pub made : (run : Run) → IsPrintable run → IsMade run
 made run p = record {
   list = p.selectors.0;
   first = p.some.0;

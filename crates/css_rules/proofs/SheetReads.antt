@@ -1,0 +1,250 @@
+-- The text of a printed sheet reads as the words of its components.
+use Rattle.std.proofs.Common.{◌≡◌, ℕ, List, [], ◌∷◌, ◌++◌, map, flat_map, Bool, true, false, ◌&&◌, ◌||◌, not, refl, sym, ◌∙◌, ap, subst, IsTrue, codes, length, drop, Option, Some, None, is_none}
+use Rattle.std.specs.List.{list_all, AllByRecursion}
+use Rattle.std.proofs.lemmas.List.{append_assoc, append-nil}
+use Rattle.css_tokens.specs.declared.kind.Kind.TheVariants as kinds
+use Rattle.css_tokens.specs.declared.component.Component.{Component}
+use Rattle.css_tokens.specs.Piece.{Piece, Word, word_of, spelled}
+use Rattle.css_tokens.specs.NameText.{name_text}
+use Rattle.css_tokens.specs.PlainNames.{is_plain_name}
+use Rattle.css_tokens.specs.Characters.{white}
+use Rattle.css_tokens.specs.Again.{StaysFirst, is_stop, marks, word_from, begins_none, after_ident}
+use Rattle.css_tokens.specs.Tokens.{First, ReadsTo, Reads, classes_of, is_refused, spells}
+use Rattle.css_tokens.specs.Trees.{words_all, all_formed}
+use Rattle.css_tokens.specs.Values.{value_text, value_words}
+use Rattle.css_tokens.specs.ValueAgain.{value_again}
+use Rattle.css_rules.specs.declared.sheet.Declaration.{Declaration}
+use Rattle.css_rules.specs.declared.selector.Combinator.{Combinator}
+use Rattle.css_rules.specs.declared.selector.TypeName.{TypeName}
+use Rattle.css_rules.specs.declared.selector.TypeName.TheVariants as types
+use Rattle.css_rules.specs.declared.selector.Simple.{Simple}
+use Rattle.css_rules.specs.declared.selector.Simple.TheVariants as simples
+use Rattle.css_rules.specs.BareSelectors.{BareCompound, BareSelector}
+use Rattle.css_rules.specs.ReadableSelectors.{is_readable_list, is_readable_selector, is_readable_compound, is_readable_type, is_readable_simple, has_type, has_simples}
+use Rattle.css_rules.specs.Components.{is_gap}
+use Rattle.css_rules.specs.Runs.{Run}
+use Rattle.css_rules.specs.Printable.{IsPrintable, IsPrintableDeclaration, ArePrintable, begins_solid}
+use Rattle.css_rules.specs.Standing.{Stands, AllStand}
+use Rattle.css_rules.specs.SelectorTexts.{list_text, selector_text, compound_text, type_text, simple_text, more_text, links_text, ends_in_dashes, lead_text}
+use Rattle.css_rules.specs.SelectorWords.{word, single_of, list_again}
+use Rattle.css_rules.specs.SheetTexts.{innermost, sheet_text}
+use Rattle.css_rules.specs.SheetAgain.{colon, semicolon, space, line_feed, value_or_space, importance_again, declaration_again, more_again, declarations_again, block_again, run_again, sheet_again}
+use Rattle.css_rules.proofs.PreludeAgain.{words-cons}
+use Rattle.css_rules.proofs.SelectorSpelling.{and-left, and-right}
+use Rattle.css_rules.proofs.RulesAgain.{made}
+use Rattle.css_rules.proofs.ValueFacts.{ValueLaws, printed-some}
+use Rattle.css_rules.proofs.SheetSpelled.{text_of, words-append, text-append, text-cons, words-brace, text-brace, text-importance, text-sheet, formed-sheet, ListText}
+
+-- what is ensured of tokens that are written one after another
+pub record ReadLaws : Type 0 where
+  pub composes : (xs ys : List Word) (s r : List ℕ) → ReadsTo (spelled xs ++ s) xs s → ReadsTo s ys r → ReadsTo (spelled xs ++ s) (xs ++ ys) r
+  pub marked : AllByRecursion (λ w. (rest : List ℕ) → StaysFirst w rest) marks
+  pub spaced : (rest : List ℕ) → begins_none white rest ≡ true → StaysFirst (word_from kinds.White (codes " ")) rest
+  pub fed : (rest : List ℕ) → begins_none white rest ≡ true → StaysFirst (word_from kinds.White (10 ∷ [])) rest
+  pub ident : (u rest : List ℕ) → spells kinds.Ident u ≡ true → begins_none after_ident rest ≡ true → StaysFirst (word_from kinds.Ident u) rest
+  pub idents : (n : List ℕ) → is_plain_name n ≡ true → spells kinds.Ident n ≡ true
+  pub no_white : (n rest : List ℕ) → is_plain_name n ≡ true → begins_none white (n ++ rest) ≡ true
+  pub named : (n : List ℕ) → IsTrue (is_plain_name n) → name_text n ≡ n
+  pub printed : (v : List Component) (s r : List ℕ) → IsTrue (all_formed v) → is_stop (classes_of s) ≡ true → is_stop (classes_of r) ≡ true
+      → ReadsTo (spelled (words_all v) ++ s) (words_all v) s → ReadsTo (value_text v ++ r) (value_words v) r
+  pub listed : (bs : List BareSelector) (rest : List ℕ) → IsTrue (is_readable_list bs) → ReadsTo (list_text bs ++ (codes "{" ++ rest)) (words_all (list_again bs)) (codes "{" ++ rest)
+
+-- the components' text reads as their words, and then the rest is left
+abbrev pub ReadsOn : List Component → List ℕ → Type 0
+ReadsOn cs rest = ReadsTo (text_of cs ++ rest) (words_all cs) rest
+
+drop-whole : (xs rest : List ℕ) → drop (length xs) (xs ++ rest) ≡ rest
+drop-whole [] rest = refl
+drop-whole (x ∷ xs) rest = drop-whole xs rest
+
+not_true : (b : Bool) → not b ≡ true → b ≡ false
+not_true true e = sym e
+not_true false e = refl
+
+module _ (laws : ReadLaws) where
+  on-append : (xs ys : List Component) (rest : List ℕ) → ReadsOn xs (text_of ys ++ rest) → ReadsOn ys rest → ReadsOn (xs ++ ys) rest
+  on-append xs ys rest first second =
+      let joined = laws.composes (words_all xs) (words_all ys) (text_of ys ++ rest) rest first second in
+      let whole : text_of (xs ++ ys) ++ rest ≡ text_of xs ++ (text_of ys ++ rest) = ap (λ t. t ++ rest) (text-append xs ys) ∙ append_assoc (text_of xs) (text_of ys) rest in
+      let P : List ℕ → Type 0 = λ t. ReadsTo t (words_all (xs ++ ys)) rest in
+      let Q : List Word → Type 0 = λ ws. ReadsTo (text_of xs ++ (text_of ys ++ rest)) ws rest in
+      subst P (sym whole) (subst Q (sym (words-append xs ys)) joined)
+
+  -- a token that stays first before what follows
+  on-cons : (w : Word) (cs : List Component) (rest : List ℕ) → is_refused w.kind ≡ false → StaysFirst w (text_of cs ++ rest) → ReadsOn cs rest → ReadsOn (single_of w ∷ cs) rest
+  on-cons w cs rest read first more =
+      let whole : text_of (single_of w ∷ cs) ++ rest ≡ w.text ++ (text_of cs ++ rest) = ap (λ t. t ++ rest) (text-cons w cs) ∙ append_assoc w.text (text_of cs) rest in
+      let P : List ℕ → Type 0 = λ t. ReadsTo t (words_all (single_of w ∷ cs)) rest in
+      let Q : List Word → Type 0 = λ ws. ReadsTo (w.text ++ (text_of cs ++ rest)) ws rest in
+      let R : List ℕ → Type 0 = λ t. ReadsTo t (words_all cs) rest in
+      subst P (sym whole) (subst Q (sym (words-cons w cs)) (first, read, subst R (sym (drop-whole w.text (text_of cs ++ rest))) more))
+
+  on-end : (rest : List ℕ) → ReadsOn [] rest
+  on-end rest = refl
+
+  open_mark : (rest : List ℕ) → StaysFirst (word kinds.Open (codes "{")) rest
+  open_mark = laws.marked.0
+
+  close_mark : (rest : List ℕ) → StaysFirst (word kinds.Close (codes "}")) rest
+  close_mark = laws.marked.1.0
+
+  colon_mark : (rest : List ℕ) → StaysFirst (word kinds.Colon (codes ":")) rest
+  colon_mark = laws.marked.1.1.1.1.1.1.0
+
+  semicolon_mark : (rest : List ℕ) → StaysFirst (word kinds.Semicolon (codes ";")) rest
+  semicolon_mark = laws.marked.1.1.1.1.1.1.1.0
+
+  bang_mark : (rest : List ℕ) → StaysFirst (word kinds.Delim (codes "!")) rest
+  bang_mark = laws.marked.1.1.1.1.1.1.1.1.1.1.1.1.0
+
+  -- what may follow a declaration: a semicolon, or the end of the block
+  abbrev after_declaration : Bool → List ℕ → List ℕ
+  after_declaration true rest = codes ";" ++ rest
+  after_declaration false rest = codes "}" ++ rest
+
+  important-reads : (more : Bool) (rest : List ℕ) → StaysFirst (word kinds.Ident (codes "important")) (after_declaration more rest)
+  important-reads true rest = laws.ident (codes "important") (codes ";" ++ rest) (laws.idents (codes "important") refl) refl
+  important-reads false rest = laws.ident (codes "important") (codes "}" ++ rest) (laws.idents (codes "important") refl) refl
+
+  importance-reads : (b more : Bool) (rest : List ℕ) → ReadsOn (importance_again b) (after_declaration more rest)
+  importance-reads true more rest =
+      on-cons (word kinds.Delim (codes "!")) (single_of (word kinds.Ident (codes "important")) ∷ []) (after_declaration more rest) refl (bang_mark (text_of (single_of (word kinds.Ident (codes "important")) ∷ []) ++ after_declaration more rest))
+      (on-cons (word kinds.Ident (codes "important")) [] (after_declaration more rest) refl (important-reads more rest) (on-end (after_declaration more rest)))
+  importance-reads false more rest = on-end (after_declaration more rest)
+
+  -- what follows a value is a stop, and no white space
+  stop-follows : (b more : Bool) (rest : List ℕ) → is_stop (classes_of (text_of (importance_again b) ++ after_declaration more rest)) ≡ true
+  stop-follows true more rest = ap (λ t. is_stop (classes_of (t ++ after_declaration more rest))) (text-importance true)
+  stop-follows false true rest = refl
+  stop-follows false false rest = refl
+
+  white-follows : (b more : Bool) (rest : List ℕ) → begins_none white (text_of (importance_again b) ++ after_declaration more rest) ≡ true
+  white-follows true more rest = ap (λ t. begins_none white (t ++ after_declaration more rest)) (text-importance true)
+  white-follows false true rest = refl
+  white-follows false false rest = refl
+
+  value-reads : ValueLaws → (v : List Component) (s r : List ℕ) → all_formed v ≡ true → begins_solid v ≡ true → is_stop (classes_of s) ≡ true → ReadsTo (spelled (words_all v) ++ s) (words_all v) s
+      → is_stop (classes_of r) ≡ true → begins_none white r ≡ true → ReadsOn (value_or_space (value_again v)) r
+  value-reads values [] s r formed begun stop reads stop_r white_r = on-cons (word kinds.White (codes " ")) [] r refl (laws.spaced r white_r) (on-end r)
+  value-reads values (c ∷ cs) s r formed begun stop reads stop_r white_r =
+      let some = printed-some values c cs formed (not_true (is_gap c) begun) in
+      let words = values.words (c ∷ cs) formed in
+      let P : List Word → Type 0 = λ ws. ReadsTo (spelled ws ++ r) ws r in
+      let again : ReadsOn (value_again (c ∷ cs)) r = subst P (sym words) (laws.printed (c ∷ cs) s r formed stop stop_r reads) in
+      let Q : List Component → Type 0 = λ v. ReadsOn v r in
+      let whole : value_or_space (value_again (c ∷ cs)) ≡ value_again (c ∷ cs) = ap value_or_space some.1.1 ∙ sym some.1.1 in
+      subst Q (sym whole) again
+
+  declaration-reads : ValueLaws → (d : Declaration) → IsPrintableDeclaration d → Stands d → (more : Bool) (rest : List ℕ) → ReadsOn (declaration_again d) (after_declaration more rest)
+  declaration-reads values d p stands more rest =
+      let after = after_declaration more rest in
+      let value = value_or_space (value_again d.value) in
+      let mark = importance_again d.important in
+      let tail = on-append value mark after
+          (value-reads values d.value stands.behind (text_of mark ++ after) p.formed p.begun stands.stop stands.reads (stop-follows d.important more rest) (white-follows d.important more rest))
+          (importance-reads d.important more rest) in
+      let spelled_name : spells kinds.Ident (name_text d.name) ≡ true = ap (spells kinds.Ident) (laws.named d.name p.name) ∙ laws.idents d.name p.name in
+      let before_colon : begins_none after_ident (text_of (colon ∷ value ++ mark) ++ after) ≡ true = ap (λ t. begins_none after_ident (t ++ after)) (text-cons (word kinds.Colon (codes ":")) (value ++ mark)) in
+      on-cons (word kinds.Ident (name_text d.name)) (colon ∷ value ++ mark) after refl (laws.ident (name_text d.name) (text_of (colon ∷ value ++ mark) ++ after) spelled_name before_colon)
+      (on-cons (word kinds.Colon (codes ":")) (value ++ mark) after refl (colon_mark (text_of (value ++ mark) ++ after)) tail)
+
+  declarations-read : ValueLaws → (d : Declaration) (ds : List Declaration) → AllByRecursion IsPrintableDeclaration (d ∷ ds) → AllByRecursion Stands (d ∷ ds) → (rest : List ℕ) → ReadsOn (declarations_again (d ∷ ds)) (codes "}" ++ rest)
+  declarations-read values d [] p stands rest =
+      on-append (declaration_again d) [] (codes "}" ++ rest) (declaration-reads values d p.0 stands.0 false rest) (on-end (codes "}" ++ rest))
+  declarations-read values d (e ∷ ds) p stands rest =
+      let others = declarations_again (e ∷ ds) in
+      let whole : text_of (semicolon ∷ others) ++ (codes "}" ++ rest) ≡ codes ";" ++ (text_of others ++ (codes "}" ++ rest)) =
+          ap (λ t. t ++ (codes "}" ++ rest)) (text-cons (word kinds.Semicolon (codes ";")) others) ∙ append_assoc (codes ";") (text_of others) (codes "}" ++ rest) in
+      let P : List ℕ → Type 0 = λ t. ReadsOn (declaration_again d) t in
+      on-append (declaration_again d) (semicolon ∷ others) (codes "}" ++ rest)
+      (subst P (sym whole) (declaration-reads values d p.0 stands.0 true (text_of others ++ (codes "}" ++ rest))))
+      (on-cons (word kinds.Semicolon (codes ";")) others (codes "}" ++ rest) refl (semicolon_mark (text_of others ++ (codes "}" ++ rest))) (declarations-read values e ds p.1 stands.1 rest))
+
+  block-reads : ValueLaws → (d : Declaration) (ds : List Declaration) → AllByRecursion IsPrintableDeclaration (d ∷ ds) → AllByRecursion Stands (d ∷ ds) → (rest : List ℕ) → begins_none white rest ≡ true
+      → ReadsOn (block_again (d ∷ ds) ∷ line_feed ∷ []) rest
+  block-reads values d ds p stands rest white_rest =
+      let inner = declarations_again (d ∷ ds) in
+      let behind = codes "}" ++ (text_of (line_feed ∷ []) ++ rest) in
+      let feed : ReadsOn (line_feed ∷ []) rest = on-cons (word kinds.White (10 ∷ [])) [] rest refl (laws.fed rest white_rest) (on-end rest) in
+      let closing : ReadsTo behind (word kinds.Close (codes "}") ∷ words_all (line_feed ∷ [])) rest = (close_mark (text_of (line_feed ∷ []) ++ rest), refl, feed) in
+      let all : ReadsTo (text_of inner ++ behind) (words_all inner ++ word kinds.Close (codes "}") ∷ words_all (line_feed ∷ [])) rest =
+          laws.composes (words_all inner) (word kinds.Close (codes "}") ∷ words_all (line_feed ∷ [])) behind rest (declarations-read values d ds p stands (text_of (line_feed ∷ []) ++ rest)) closing in
+      let opened : ReadsTo (codes "{" ++ (text_of inner ++ behind)) (word kinds.Open (codes "{") ∷ (words_all inner ++ word kinds.Close (codes "}") ∷ words_all (line_feed ∷ []))) rest = (open_mark (text_of inner ++ behind), refl, all) in
+      let whole : text_of (block_again (d ∷ ds) ∷ line_feed ∷ []) ++ rest ≡ codes "{" ++ (text_of inner ++ behind) =
+          ap (λ t. t ++ rest) (text-brace (d ∷ ds) (line_feed ∷ []))
+          ∙ ap (λ t. codes "{" ++ t) (append_assoc (text_of inner) (codes "}" ++ text_of (line_feed ∷ [])) rest ∙ ap (λ t. text_of inner ++ t) (append_assoc (codes "}") (text_of (line_feed ∷ [])) rest)) in
+      let P : List ℕ → Type 0 = λ t. ReadsTo t (words_all (block_again (d ∷ ds) ∷ line_feed ∷ [])) rest in
+      let Q : List Word → Type 0 = λ ws. ReadsTo (codes "{" ++ (text_of inner ++ behind)) ws rest in
+      subst P (sym whole) (subst Q (sym (words-brace (d ∷ ds) (line_feed ∷ []))) opened)
+
+  run-reads : ValueLaws → ListText → (list : List BareSelector) (d : Declaration) (ds : List Declaration) → IsTrue (is_readable_list list) → AllByRecursion IsPrintableDeclaration (d ∷ ds) → AllByRecursion Stands (d ∷ ds)
+      → (rest : List ℕ) → begins_none white rest ≡ true → ReadsOn (list_again list ++ block_again (d ∷ ds) ∷ line_feed ∷ []) rest
+  run-reads values lists list d ds readable p stands rest white_rest =
+      let tail = block_again (d ∷ ds) ∷ line_feed ∷ [] in
+      let inner = text_of (declarations_again (d ∷ ds)) ++ (codes "}" ++ text_of (line_feed ∷ [])) in
+      let whole : text_of tail ++ rest ≡ codes "{" ++ (inner ++ rest) = ap (λ t. t ++ rest) (text-brace (d ∷ ds) (line_feed ∷ [])) in
+      let P : List ℕ → Type 0 = λ t. ReadsTo (text_of (list_again list) ++ t) (words_all (list_again list)) t in
+      let Q : List ℕ → Type 0 = λ t. ReadsTo (t ++ (codes "{" ++ (inner ++ rest))) (words_all (list_again list)) (codes "{" ++ (inner ++ rest)) in
+      on-append (list_again list) tail rest (subst P (sym whole) (subst Q (sym (lists.text list)) (laws.listed list (inner ++ rest) readable))) (block-reads values d ds p stands rest white_rest)
+
+  -- a selector begins with no white space
+
+  simple-begins : (s : Simple) (rest : List ℕ) → begins_none white (simple_text s ++ rest) ≡ true
+  simple-begins (simples.Class n) rest = refl
+  simple-begins (simples.Id n) rest = refl
+  simple-begins simples.Parent rest = refl
+
+  compound-begins : (kind : TypeName) (ss : List Simple) (rest : List ℕ) → is_readable_compound (record { kind = kind; simples = ss }) ≡ true → begins_none white ((type_text kind ++ flat_map simple_text ss) ++ rest) ≡ true
+  compound-begins (types.Name n) ss rest e =
+      let plain = and-left (is_plain_name n) (list_all is_readable_simple ss) e in
+      ap (λ t. begins_none white ((t ++ flat_map simple_text ss) ++ rest)) (laws.named n plain)
+      ∙ ap (begins_none white) (append_assoc n (flat_map simple_text ss) rest)
+      ∙ laws.no_white n (flat_map simple_text ss ++ rest) plain
+  compound-begins types.Universal ss rest e = refl
+  compound-begins types.None [] rest e = absurd (cc e)
+  compound-begins types.None (s ∷ ss) rest e = ap (begins_none white) (append_assoc (simple_text s) (flat_map simple_text ss) rest) ∙ simple-begins s (flat_map simple_text ss ++ rest)
+
+  selector-begins : (b : BareSelector) (rest : List ℕ) → is_readable_selector b ≡ true → begins_none white (selector_text b ++ rest) ≡ true
+  selector-begins b rest e =
+      let links = links_text (ends_in_dashes (compound_text b.first)) b.rest in
+      let others = is_readable_compound b.first && list_all (λ link. is_readable_compound link.1) b.rest in
+      let lead = lead-none b.lead (and-left (is_none b.lead) others e) in
+      ap (λ o. begins_none white ((lead_text o ++ (compound_text b.first ++ links)) ++ rest)) lead
+      ∙ ap (begins_none white) (append_assoc (compound_text b.first) links rest)
+      ∙ compound-begins b.first.kind b.first.simples (links ++ rest) (and-left (is_readable_compound b.first) (list_all (λ link. is_readable_compound link.1) b.rest) (and-right (is_none b.lead) others e))
+    where
+      lead-none : (o : Option Combinator) → is_none o ≡ true → o ≡ None
+      lead-none None h = refl
+      lead-none (Some c) h = absurd (cc h)
+
+  list-begins : (bs : List BareSelector) (rest : List ℕ) → is_readable_list bs ≡ true → begins_none white (list_text bs ++ rest) ≡ true
+  list-begins [] rest e = absurd (cc e)
+  list-begins (b ∷ bs) rest e =
+      ap (begins_none white) (append_assoc (selector_text b) (more_text bs) rest)
+      ∙ selector-begins b (more_text bs ++ rest) (and-left (is_readable_selector b) (list_all is_readable_selector bs) e)
+
+  sheet-reads : ValueLaws → ListText → (runs : List Run) → ArePrintable runs → AllStand runs → ReadsOn (sheet_again runs) []
+  sheet-reads values lists [] p stands = on-end []
+  sheet-reads values lists (run ∷ runs) p stands =
+      let m = made run p.0 in
+      let rest = text_of (sheet_again runs) ++ [] in
+      let P : Run → Type 0 = λ r. AllByRecursion Stands r.declarations → ReadsOn (run_again r) rest in
+      let of_made : P (record { chain = m.list ∷ []; declarations = m.first ∷ m.more }) = λ standing. run-reads values lists m.list m.first m.more m.readable m.each standing rest (sheet-begins values lists runs p.1) in
+      on-append (run_again run) (sheet_again runs) [] (subst P (sym m.is) of_made stands.0) (sheet-reads values lists runs p.1 stands.1)
+    where
+      sheet-begins : ValueLaws → ListText → (rs : List Run) → ArePrintable rs → begins_none white (text_of (sheet_again rs) ++ []) ≡ true
+      sheet-begins values lists [] p = refl
+      sheet-begins values lists (r ∷ rs) p =
+          let m = made r p.0 in
+          let tail = block_again r.declarations ∷ line_feed ∷ [] in
+          let list = list_again (innermost r.chain) in
+          let Q : Run → Type 0 = λ q. is_readable_list (innermost q.chain) ≡ true in
+          ap (λ t. begins_none white (t ++ [])) (text-append (list ++ tail) (sheet_again rs) ∙ ap (λ t. t ++ text_of (sheet_again rs)) (text-append list tail ∙ ap (λ t. t ++ text_of tail) (lists.text (innermost r.chain))))
+          ∙ ap (begins_none white) (append_assoc (list_text (innermost r.chain) ++ text_of tail) (text_of (sheet_again rs)) [] ∙ append_assoc (list_text (innermost r.chain)) (text_of tail) (text_of (sheet_again rs) ++ []))
+          ∙ list-begins (innermost r.chain) (text_of tail ++ (text_of (sheet_again rs) ++ [])) (subst Q (sym m.is) m.readable)
+
+  -- the text of a printed sheet reads as the words of its components
+  pub text-reads : ValueLaws → ListText → (runs : List Run) → ArePrintable runs → AllStand runs → Reads (sheet_text runs) (words_all (sheet_again runs))
+  text-reads values lists runs p stands =
+      let P : List ℕ → Type 0 = λ t. ReadsTo t (words_all (sheet_again runs)) [] in
+      subst P (append-nil (text_of (sheet_again runs)) ∙ text-sheet values lists runs p) (sheet-reads values lists runs p stands)
