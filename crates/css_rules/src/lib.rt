@@ -15,4 +15,4 @@ pub use places_law::places_do_not_matter;
 pub use reader::RuleFault;
 pub use refusal::{Refusal, Sought};
 pub use sheet::{Declaration, Item, Sheet, Style};
-pub use sheet_laws::sheets_are_printable;
+pub use sheet_laws::{sheets_are_printable, sheets_are_read_again};

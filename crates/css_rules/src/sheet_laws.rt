@@ -1,11 +1,15 @@
+ghost use Rattle.css_rules.specs.SheetAgain.{sheet_again};
+ghost use Rattle.css_rules.specs.SheetTexts.{sheet_text};
+ghost use Rattle.css_rules.specs.Standing.{AllStand};
+ghost use Rattle.css_tokens.specs.Tokens.{Reads};
 ghost use Rattle.css_rules.specs.Printable.{ArePrintable};
 ghost use Rattle.css_rules.specs.ReadableSelectors.{is_spelled};
-ghost use Rattle.css_rules.specs.Runs.{runs_of};
+ghost use Rattle.css_rules.specs.Runs.{Run, bare_run, bare_runs, runs_of};
 ghost use Rattle.css_rules.specs.Sheets.{sheet_of, sheet_refusals};
 ghost use Rattle.css_tokens.specs.Trees.{all_formed, words_all};
 ghost use Rattle.css_tokens.specs.declared.component.Component.{Component};
 ghost use Rattle.std.specs.List.{list_all};
-ghost use Rattle.std.specs.Prelude.{◌≡◌, List, [], IsTrue};
+ghost use Rattle.std.specs.Prelude.{◌≡◌, List, [], IsTrue, map};
 
 /// What a list of components is read as is printable, where nothing in the list is refused, its components are well formed
 /// and its Idents spell Idents: each run is of one style rule, with selectors that have a spelling and no `&`, and each of
@@ -13,3 +17,21 @@ ghost use Rattle.std.specs.Prelude.{◌≡◌, List, [], IsTrue};
 pub fn sheets_are_printable()
     ensures { (cs : List Component) → sheet_refusals cs ≡ [] → IsTrue (all_formed cs) → IsTrue (list_all is_spelled (words_all cs)) → ArePrintable (runs_of (sheet_of cs)) }
 {}
+
+/// The text that printable runs print as reads as components that say the same: its tokens are their words, their brackets
+/// are paired, and nothing in them is refused.
+pub fn sheets_are_read_again()
+    ensures reads { (runs : List Run) → ArePrintable runs → AllStand runs → Reads (sheet_text runs) (words_all (sheet_again runs)) }
+    ensures formed { (runs : List Run) → ArePrintable runs → IsTrue (all_formed (sheet_again runs)) }
+    ensures faultless { (runs : List Run) → ArePrintable runs → sheet_refusals (sheet_again runs) ≡ [] }
+    ensures same { (runs : List Run) → ArePrintable runs → bare_runs (sheet_of (sheet_again runs)) ≡ map bare_run runs }
+{
+    css_tokens::printed_again();
+    css_tokens::plain_name();
+    css_tokens::words_again();
+    css_tokens::names_spell();
+    css_tokens::names_stay();
+    css_tokens::values_again();
+    crate::selector::selectors_are_read_again();
+    crate::selector::selector_text_reads();
+}
