@@ -1,0 +1,34 @@
+use Rattle.css_rules.proofs.ValueFacts.{ValueLaws}
+use Rattle.css_rules.proofs.SheetRound.{NameLaws}
+use Rattle.css_rules.proofs.RulesAgain.{SelectorLaws, sheet-again, sheet-faultless}
+use Rattle.css_rules.proofs.SheetSpelled.{ListText, formed-sheet}
+use Rattle.css_rules.proofs.SheetReads.{ReadLaws, text-reads}
+use Rattle.css_rules.proofs.sheet_laws.sheets_are_read_again.Goals as goal
+
+pub returns : goal.returns
+returns c =
+    let printed = c.printed_again.ensures in
+    let again = c.words_again.ensures in
+    let lists = c.selectors_are_read_again.ensures in
+    let values : ValueLaws = record { words = printed.words; formed = printed.formed; text = printed.text; solid = printed.solid; starts = printed.starts; ends = printed.ends } in
+    let names : NameLaws = record { plain = c.plain_name.ensures } in
+    let selectors : SelectorLaws = record { sound = lists.sound; same = lists.same } in
+    let texts : ListText = record { text = lists.text; formed = lists.formed } in
+    let reading : ReadLaws = record {
+      composes = again.composes;
+      marked = again.marks;
+      spaced = again.space;
+      fed = again.feed;
+      ident = again.ident;
+      idents = c.names_spell.ensures.ident;
+      no_white = c.names_stay.ensures.white;
+      named = c.plain_name.ensures;
+      printed = c.values_again.ensures.printed;
+      listed = c.selector_text_reads.ensures;
+    } in
+    record {
+      reads = text-reads reading values texts;
+      formed = formed-sheet values texts;
+      faultless = sheet-faultless values names selectors;
+      same = sheet-again values names selectors;
+    }
