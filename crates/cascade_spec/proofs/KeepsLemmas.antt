@@ -1,0 +1,99 @@
+-- What is written from a sheet keeps the winners of its text.
+use Rattle.std.proofs.Common.{◌≡◌, ℕ, ◌≤◌, ◌<◌, List, [], ◌∷◌, ◌++◌, map, Bool, true, false, ◌&&◌, not, Option, Some, None, refl, sym, ◌∙◌, ap, subst, IsTrue, arith, length, take, drop, inl, inr, nat_lt, nat_eq}
+use Rattle.std.specs.List.{list_all}
+use Rattle.std.specs.Option.{option_map}
+use Rattle.std.proofs.lemmas.List.{take-append-drop}
+use Rattle.std.proofs.lemmas.List.Folds.{list_all-append}
+use Rattle.css_tokens.specs.declared.kind.Kind.{Kind}
+use Rattle.css_tokens.specs.declared.kind.Kind.TheVariants as kinds
+use Rattle.css_tokens.specs.declared.component.Component.{Component}
+use Rattle.css_tokens.specs.Piece.{Word, spelled}
+use Rattle.css_tokens.specs.PlainNames.{is_plain_name}
+use Rattle.css_tokens.specs.Tokens.{First, ReadsTo, Reads, first_front, word, is_plain, spells}
+use Rattle.css_tokens.specs.Trees.{words_all, all_formed}
+use Rattle.css_rules.specs.ReadableSelectors.{is_spelled, is_spelled_kind}
+use Rattle.css_rules.specs.Runs.{Run, bare_run, bare_runs, runs_of}
+use Rattle.css_rules.specs.Printable.{ArePrintable}
+use Rattle.css_rules.specs.Sheets.{sheet_of, sheet_refusals}
+use Rattle.css_rules.specs.SheetAgain.{sheet_again}
+use Rattle.css_rules.specs.SheetTexts.{sheet_text}
+use Rattle.css_rules.specs.Standing.{AllStand}
+use Rattle.cascade_spec.specs.Cascade.{Question, winner}
+use Rattle.cascade_spec.specs.Readings.{ReadsAs, HasSheet, KeepsWinners}
+
+and_left : (a b : Bool) → (a && b) ≡ true → a ≡ true
+and_left true b e = refl
+and_left false b e = e
+
+and_right : (a b : Bool) → (a && b) ≡ true → b ≡ true
+and_right true b e = e
+and_right false b e = cc
+
+abbrev is_plain_byte : ℕ → Bool
+is_plain_byte b = nat_lt b 128 && not (nat_eq b 92)
+
+both_plain : (xs ys : List ℕ) → is_plain (xs ++ ys) ≡ true → (is_plain xs ≡ true) × (is_plain ys ≡ true)
+both_plain xs ys e =
+    let split = sym (list_all-append is_plain_byte xs ys) ∙ e in
+    (and_left (is_plain xs) (is_plain ys) split, and_right (is_plain xs) (is_plain ys) split)
+
+plain-take : (n : ℕ) (text : List ℕ) → is_plain text ≡ true → is_plain (take n text) ≡ true
+plain-take n text e = (both_plain (take n text) (drop n text) (ap is_plain (take-append-drop n text) ∙ e)).0
+
+plain-drop : (n : ℕ) (text : List ℕ) → is_plain text ≡ true → is_plain (drop n text) ≡ true
+plain-drop n text e = (both_plain (take n text) (drop n text) (ap is_plain (take-append-drop n text) ∙ e)).1
+
+-- the first token of a plain text is plain
+plain-first : (text : List ℕ) (w : Word) → is_plain text ≡ true → First text w → is_plain w.text ≡ true
+plain-first text w e first = at (first_front text) first
+  where
+    at : (o : Option (Kind × ℕ)) → option_map (word text) o ≡ Some w → is_plain w.text ≡ true
+    at None h = absurd (cc h)
+    at (Some front) h =
+        let same : word text front ≡ w = cc h in
+        ap (λ (v : Word). is_plain v.text) (sym same) ∙ plain-take front.1 text e
+
+-- an Ident in a plain text is a plain name
+spelled-word : ((n : List ℕ) → is_plain n ≡ true → spells kinds.Ident n ≡ true → is_plain_name n ≡ true) → (k : Kind) (text : List ℕ) → is_plain text ≡ true → spells k text ≡ true → is_spelled_kind k text ≡ true
+spelled-word names kinds.Ident text plain e = names text plain e
+spelled-word names _ text plain e = refl
+
+pub words-spelled : ((n : List ℕ) → is_plain n ≡ true → spells kinds.Ident n ≡ true → is_plain_name n ≡ true) → ((t : List ℕ) (w : Word) → First t w → spells w.kind w.text ≡ true)
+    → (text : List ℕ) (ws : List Word) (rest : List ℕ) → is_plain text ≡ true → ReadsTo text ws rest → list_all is_spelled ws ≡ true
+words-spelled names first text [] rest plain reads = refl
+words-spelled names first text (w ∷ ws) rest plain reads =
+    ap (λ b. b && list_all is_spelled ws) (spelled-word names w.kind w.text (plain-first text w plain reads.0) (first text w reads.0))
+    ∙ words-spelled names first (drop (length w.text) text) ws rest (plain-drop (length w.text) text plain) reads.2
+
+-- what the lower crates ensure
+pub record SheetLaws : Type 0 where
+  pub one : (t : List ℕ) (a b : List Word) → Reads t a → Reads t b → a ≡ b
+  pub names : (n : List ℕ) → is_plain n ≡ true → spells kinds.Ident n ≡ true → is_plain_name n ≡ true
+  pub first : (t : List ℕ) (w : Word) → First t w → spells w.kind w.text ≡ true
+  pub printable : (cs : List Component) → sheet_refusals cs ≡ [] → IsTrue (all_formed cs) → IsTrue (list_all is_spelled (words_all cs)) → ArePrintable (runs_of (sheet_of cs))
+  pub standing : (text : List ℕ) (cs : List Component) → Reads text (words_all cs) → IsTrue (all_formed cs) → sheet_refusals cs ≡ [] → AllStand (runs_of (sheet_of cs))
+  pub reads : (runs : List Run) → ArePrintable runs → AllStand runs → Reads (sheet_text runs) (words_all (sheet_again runs))
+  pub formed : (runs : List Run) → ArePrintable runs → IsTrue (all_formed (sheet_again runs))
+  pub faultless : (runs : List Run) → ArePrintable runs → sheet_refusals (sheet_again runs) ≡ []
+  pub same : (runs : List Run) → ArePrintable runs → bare_runs (sheet_of (sheet_again runs)) ≡ map bare_run runs
+  pub places : (a b : List Component) → words_all a ≡ words_all b → IsTrue (all_formed a) → IsTrue (all_formed b) → bare_runs (sheet_of a) ≡ bare_runs (sheet_of b)
+
+module _ (laws : SheetLaws) where
+  -- two readings of one text say the same
+  pub one-sheet : (text : List ℕ) (a b : List Component) → ReadsAs text a → ReadsAs text b → bare_runs (sheet_of a) ≡ bare_runs (sheet_of b)
+  one-sheet text a b p q = laws.places a b (laws.one text (words_all a) (words_all b) p.reads q.reads) p.formed q.formed
+
+  -- what is written from a sheet keeps the winners
+  pub keeps-winners : (source : List ℕ) (cs : List Component) → IsTrue (is_plain source) → ReadsAs source cs → KeepsWinners source (sheet_text (runs_of (sheet_of cs)))
+  keeps-winners source cs plain read =
+      let runs = runs_of (sheet_of cs) in
+      let printable : ArePrintable runs = laws.printable cs read.faultless read.formed (words-spelled laws.names laws.first source (words_all cs) [] plain read.reads) in
+      let stands : AllStand runs = laws.standing source cs read.reads read.formed read.faultless in
+      let again : ReadsAs (sheet_text runs) (sheet_again runs) = record { reads = laws.reads runs printable stands; formed = laws.formed runs printable; faultless = laws.faultless runs printable } in
+      record {
+        readable = (sheet_of (sheet_again runs), (sheet_again runs, again, refl));
+        same = λ old new is_old is_new q.
+            ap (λ s. winner q (bare_runs s)) is_new.2
+            ∙ ap (winner q) (one-sheet (sheet_text runs) is_new.0 (sheet_again runs) is_new.1 again ∙ laws.same runs printable ∙ one-sheet source cs is_old.0 read is_old.1)
+            ∙ ap (λ s. winner q (bare_runs s)) (sym is_old.2);
+      }
