@@ -24,3 +24,6 @@ pub mod FromSourceParts
 pub mod FromSourceSelectors
 pub mod FromSourceDeclarations
 pub mod FromSourceRules
+pub mod StandLists
+pub mod StandCuts
+pub mod StandSheets

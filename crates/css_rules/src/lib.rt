@@ -9,8 +9,10 @@ mod refusal;
 pub mod selector;
 mod sheet;
 mod sheet_laws;
+mod standing_law;
 
 pub use reader::RuleFault;
 pub use refusal::{Refusal, Sought};
 pub use sheet::{Declaration, Item, Sheet, Style};
 pub use sheet_laws::sheets_are_printable;
+pub use standing_law::values_stand;
