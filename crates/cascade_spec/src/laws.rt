@@ -1,1 +1,24 @@
 //! Laws about the definitions of this crate, each the contract of a function that does nothing.
+
+ghost use Rattle.std.specs.Prelude.{◌≡◌, ℕ, List, IsTrue};
+ghost use Rattle.css_tokens.specs.declared.component.Component.{Component};
+ghost use Rattle.css_tokens.specs.Tokens.{is_plain};
+ghost use Rattle.css_rules.specs.Runs.{runs_of, bare_runs};
+ghost use Rattle.css_rules.specs.Sheets.{sheet_of};
+ghost use Rattle.css_rules.specs.SheetTexts.{sheet_text};
+ghost use Rattle.css_rules.specs.declared.sheet.Sheet.{Sheet};
+ghost use Rattle.cascade_spec.specs.Readings.{ReadsAs, HasSheet, KeepsWinners};
+
+/// The text that a sheet prints as keeps the winners of the text that the sheet was read from, and a text reads as one
+/// sheet, places aside.
+pub fn sheets_keep_winners()
+    ensures kept { (source : List ℕ) (cs : List Component) → IsTrue (is_plain source) → ReadsAs source cs → KeepsWinners source (sheet_text (runs_of (sheet_of cs))) }
+    ensures one { (text : List ℕ) (a b : Sheet) → HasSheet text a → HasSheet text b → bare_runs a ≡ bare_runs b }
+{
+    css_tokens::one_reading();
+    css_tokens::names_spell();
+    css_rules::sheets_are_printable();
+    css_rules::values_stand();
+    css_rules::sheets_are_read_again();
+    css_rules::places_do_not_matter();
+}

@@ -32,6 +32,9 @@ gap-Block b = ap (λ v. layer_is_single v && is_gap_kind (layer_head v).kind) (o
 pub ident-Single : (p : Piece) → is_ident (component.Single p) ≡ is_ident_kind p.kind
 ident-Single p = ap (λ v. layer_is_single v && is_ident_kind (layer_head v).kind) (outs-Single p)
 
+pub ident-Block : (b : block.Block) → is_ident (component.Block b) ≡ false
+ident-Block b = ap (λ v. layer_is_single v && is_ident_kind (layer_head v).kind) (outs-Block b)
+
 pub at-Single : (p : Piece) → is_at_keyword (component.Single p) ≡ is_at_kind p.kind
 at-Single p = ap (λ v. layer_is_single v && is_at_kind (layer_head v).kind) (outs-Single p)
 

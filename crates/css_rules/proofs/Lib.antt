@@ -31,3 +31,6 @@ pub mod PlacesSelectors
 pub mod PlacesCuts
 pub mod Places
 pub mod SheetReads
+pub mod StandLists
+pub mod StandCuts
+pub mod StandSheets

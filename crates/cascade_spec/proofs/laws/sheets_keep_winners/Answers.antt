@@ -1,0 +1,24 @@
+use Rattle.std.proofs.Common.{◌∙◌, ap, sym}
+use Rattle.css_rules.specs.Runs.{bare_runs}
+use Rattle.cascade_spec.proofs.KeepsLemmas.{SheetLaws, keeps-winners, one-sheet}
+use Rattle.cascade_spec.proofs.laws.sheets_keep_winners.Goals as goal
+
+pub returns : goal.returns
+returns c =
+    let again = c.sheets_are_read_again.ensures in
+    let laws : SheetLaws = record {
+      one = c.one_reading.ensures.one;
+      names = c.names_spell.ensures.plain;
+      first = c.names_spell.ensures.first;
+      printable = c.sheets_are_printable.ensures;
+      standing = c.values_stand.ensures;
+      reads = again.reads;
+      formed = again.formed;
+      faultless = again.faultless;
+      same = again.same;
+      places = c.places_do_not_matter.ensures;
+    } in
+    record {
+      kept = keeps-winners laws;
+      one = λ text a b p q. ap bare_runs p.2 ∙ one-sheet laws text p.0 q.0 p.1 q.1 ∙ sym (ap bare_runs q.2);
+    }

@@ -1,0 +1,166 @@
+-- Each value of a sheet stands in the sheet's text before a stop.
+use Rattle.std.proofs.Common.{◌≡◌, ℕ, List, [], ◌∷◌, ◌++◌, Bool, true, false, refl, sym, ◌∙◌, ap, subst, Option, Some, None, flat_map}
+use Rattle.std.specs.Prelude.{if◌then◌else◌}
+use Rattle.std.specs.List.{AllByRecursion}
+use Rattle.std.specs.Option.{option_to_list}
+use Rattle.std.proofs.lemmas.List.{append-nil}
+use Rattle.std.proofs.lemmas.List.Concat.{flat_map-append}
+use Rattle.css_tokens.specs.declared.component.Component.{Component}
+use Rattle.css_tokens.specs.Again.{is_stop}
+use Rattle.css_tokens.specs.Piece.{Piece, spelled}
+use Rattle.css_tokens.specs.Tokens.{Reads, ReadsTo, classes_of}
+use Rattle.css_tokens.specs.Trees.{words_all}
+use Rattle.css_rules.specs.declared.sheet.Declaration.{Declaration}
+use Rattle.css_rules.specs.declared.sheet.Item.{Item}
+use Rattle.css_rules.specs.declared.sheet.Item as item
+use Rattle.css_rules.specs.declared.sheet.Style as style
+use Rattle.css_rules.specs.BareSelectors.{BareSelector, bare_list}
+use Rattle.css_rules.specs.Components.{head, inside, is_ident, is_colon, is_bang, is_semicolon, is_braces, is_custom}
+use Rattle.css_rules.specs.Cuts.{Cut, cuts, trimmed, trimmed_start}
+use Rattle.css_rules.specs.Declarations.{property_name, after_colon, may_be_value, is_important, value_of, declared, declared_after, declaration_of}
+use Rattle.css_rules.specs.Runs.{Run, runs_within, runs_of, runs_within-Plain, runs_within-Style}
+use Rattle.css_rules.specs.Selectors.{list_of}
+use Rattle.css_rules.specs.Sheets.{declarations_of, run_of, first_place, rule_of, sheet_of}
+use Rattle.css_rules.specs.Standing.{Stands, AllStand}
+use Rattle.css_rules.proofs.FromSourceDeclarations.{each-append}
+use Rattle.css_rules.proofs.StandCuts.{JoinsAt, Joins, joins-cuts, stands-start, stands-trimmed, MarkStands, semicolon-fronts, marks-stand, bang-stop}
+use Rattle.css_rules.proofs.StandLists.{ReadingLaws, StandsAt, StandsBefore, text-spelled, stands-front, stands-back, stands-tail, stands-inside}
+
+abbrev OfSome : {X : Type 0} → (X → Type 0) → Option X → Type 0
+OfSome P None = Unit {0}
+OfSome P (Some x) = P x
+
+abbrev ValueStands : Option (List Component × Bool) → Type 0
+ValueStands o = OfSome (λ (value : List Component × Bool). StandsBefore value.0) o
+
+each-option : (o : Option Declaration) → OfSome Stands o → AllByRecursion Stands (option_to_list o)
+each-option None h = tt
+each-option (Some d) h = (h, tt)
+
+module _ (laws : ReadingLaws) where
+  -- Values.
+
+  marked-value : (value mark : Cut) (more : List Cut) (xs : List Component) (s : List ℕ) (o : Option Component) → JoinsAt is_bang value.front o (mark ∷ more) (λ rest. Joins is_bang (mark ∷ more) rest) xs → StandsAt xs s
+      → is_important (trimmed mark.front) ≡ true → StandsBefore (trimmed value.front)
+  marked-value value mark more xs s None joins stands is = absurd (cc (joins.1))
+  marked-value value mark more xs s (Some m) joins stands is = at mark.mark joins.3
+    where
+      stopped : (tail : List Component) → joins.1 ≡ mark.front ++ tail → StandsBefore (trimmed value.front)
+      stopped tail e =
+          let all = subst (λ (t : List Component). StandsAt t s) (joins.2 ∙ ap (λ (t : List Component). value.front ++ m ∷ t) e) stands in
+          let rest = m ∷ mark.front ++ tail in
+          stands-trimmed laws value.front (spelled (words_all rest) ++ s)
+          (bang-stop laws m mark.front tail s joins.0 is (stands-back laws value.front rest s all))
+          (stands-front laws value.front rest s all)
+
+      at : (o : Option Component) → JoinsAt is_bang mark.front o more (λ rest. Joins is_bang more rest) joins.1 → StandsBefore (trimmed value.front)
+      at None j = stopped [] (j.0 ∙ sym (append-nil mark.front))
+      at (Some n) j = stopped (n ∷ j.1) j.2
+
+  marked-at : (v : List Component) (b : Bool) → (b ≡ true → StandsBefore v) → ValueStands (if b then Some (v, true) else None)
+  marked-at v true stands = stands refl
+  marked-at v false stands = tt
+
+  only-value : (value : Cut) (xs : List Component) (s : List ℕ) (o : Option Component) → JoinsAt is_bang value.front o [] (λ rest. Joins is_bang [] rest) xs → StandsAt xs s
+      → is_stop (classes_of s) ≡ true → StandsBefore (trimmed value.front)
+  only-value value xs s None joins stands stop = stands-trimmed laws value.front s stop (subst (λ (t : List Component). StandsAt t s) joins.0 stands)
+  only-value value xs s (Some m) joins stands stop = absurd joins.3
+
+  value-stands : (cs : List Cut) (xs : List Component) (s : List ℕ) → Joins is_bang cs xs → StandsAt xs s → is_stop (classes_of s) ≡ true → ValueStands (value_of cs)
+  value-stands [] xs s joins stands stop = tt
+  value-stands (value ∷ []) xs s joins stands stop = only-value value xs s value.mark joins stands stop
+  value-stands (value ∷ mark ∷ []) xs s joins stands stop =
+      marked-at (trimmed value.front) (is_important (trimmed mark.front)) (λ is. marked-value value mark [] xs s value.mark joins stands is)
+  value-stands (value ∷ mark ∷ more ∷ cs) xs s joins stands stop = tt
+
+  -- Declarations.
+
+  declared-at : (name : Piece) (v : List Component × Bool) (b : Bool) → StandsBefore v.0
+      → OfSome Stands (if b then Some (record { name = property_name name.text; value = v.0; important = v.1; at = name.at }) else None)
+  declared-at name v true stands = record { behind = stands.behind; stop = stands.stop; reads = stands.reads }
+  declared-at name v false stands = tt
+
+  declared-stands : (name : Piece) (o : Option (List Component × Bool)) → ValueStands o → OfSome Stands (declared name o)
+  declared-stands name None stands = tt
+  declared-stands name (Some v) stands = declared-at name v (may_be_value (is_custom name.text) v.0) stands
+
+  tail-stands : (name : Piece) (cs : List Component) (s : List ℕ) (b : Bool) → StandsAt cs s → is_stop (classes_of s) ≡ true → OfSome Stands (declared_after name (if b then Some cs else None))
+  tail-stands name cs s true stands stop = declared-stands name (value_of (cuts is_bang cs)) (value-stands (cuts is_bang cs) cs s (joins-cuts is_bang cs) stands stop)
+  tail-stands name cs s false stands stop = tt
+
+  after-stands : (name : Piece) (cs : List Component) (s : List ℕ) → StandsAt cs s → is_stop (classes_of s) ≡ true → OfSome Stands (declared_after name (after_colon cs))
+  after-stands name [] s stands stop = tt
+  after-stands name (c ∷ cs) s stands stop = tail-stands name cs s (is_colon c) (stands-tail laws c cs s stands) stop
+
+  named-at : (o : Option Declaration) (b : Bool) → OfSome Stands o → OfSome Stands (if b then o else None)
+  named-at o true stands = stands
+  named-at o false stands = tt
+
+  declaration-stands : (cs : List Component) → StandsBefore cs → OfSome Stands (declaration_of cs)
+  declaration-stands [] stands = tt
+  declaration-stands (c ∷ cs) stands =
+      named-at (declared_after (head c) (after_colon (trimmed_start cs))) (is_ident c)
+      (after-stands (head c) (trimmed_start cs) stands.behind
+      (stands-start laws cs stands.behind (stands-tail laws c cs stands.behind (record { reads = stands.reads })))
+      stands.stop)
+
+  abbrev read_at : Cut → List Declaration
+  read_at cut = option_to_list (declaration_of (trimmed cut.front))
+
+  each-items : (cs : List Cut) → AllByRecursion (λ (cut : Cut). StandsBefore cut.front) cs → AllByRecursion Stands (flat_map read_at cs)
+  each-items [] each = tt
+  each-items (cut ∷ cs) each =
+      let front = each.0 in
+      each-append Stands (read_at cut) (flat_map read_at cs)
+      (each-option (declaration_of (trimmed cut.front))
+      (declaration-stands (trimmed cut.front) (stands-trimmed laws cut.front front.behind front.stop (record { reads = front.reads }))))
+      (each-items cs each.1)
+
+  block-stands : (block : List Component) → StandsBefore block → AllByRecursion Stands (declarations_of block)
+  block-stands block stands =
+      each-items (cuts is_semicolon block)
+      (semicolon-fronts laws (cuts is_semicolon block) block stands.behind (joins-cuts is_semicolon block) (record { reads = stands.reads }) stands.stop)
+
+  -- Rules.
+
+  abbrev RunStands : Run → Type 0
+  RunStands run = AllByRecursion Stands run.declarations
+
+  abbrev at_top : Item → List Run
+  at_top i = runs_within i []
+
+  items-stand : (list : List BareSelector) (ds : List Declaration) → AllByRecursion Stands ds → AllStand (flat_map (λ i. runs_within i (list ∷ [])) (run_of ds))
+  items-stand list [] each = tt
+  items-stand list (d ∷ ds) each =
+      subst (λ (runs : List Run). AllStand runs)
+      (sym (append-nil (runs_within (item.Plain (d ∷ ds)) (list ∷ [])) ∙ runs_within-Plain (d ∷ ds) (list ∷ [])))
+      (each, tt)
+
+  style-stands : (s : style.Style) (ds : List Declaration) → s.items ≡ run_of ds → AllByRecursion Stands ds → AllStand (flat_map at_top (item.Style s ∷ []))
+  style-stands s ds is each =
+      let list = bare_list s.selectors in
+      subst (λ (runs : List Run). AllStand runs)
+      (sym (append-nil (at_top (item.Style s)) ∙ runs_within-Style s [] ∙ ap (λ (items : List Item). flat_map (λ i. runs_within i (list ∷ [])) items) is))
+      (items-stand list ds each)
+
+  rule-stands : (prelude : List Component) (mark : Option Component) → MarkStands mark → AllStand (flat_map at_top (rule_of prelude mark))
+  rule-stands prelude None stands = tt
+  rule-stands prelude (Some block) stands =
+      let ds = declarations_of (inside block) in
+      style-stands (record { selectors = list_of prelude; items = run_of ds; at = first_place (trimmed prelude) (head block).at }) ds refl
+      (block-stands (inside block) (stands-inside laws block stands.0 stands.1))
+
+  abbrev rule_at : Cut → List Item
+  rule_at cut = rule_of cut.front cut.mark
+
+  rules-stand : (cs : List Cut) → AllByRecursion (λ (cut : Cut). MarkStands cut.mark) cs → AllStand (flat_map at_top (flat_map rule_at cs))
+  rules-stand [] each = tt
+  rules-stand (cut ∷ cs) each =
+      subst (λ (runs : List Run). AllStand runs)
+      (sym (flat_map-append at_top (rule_at cut) (flat_map rule_at cs)))
+      (each-append RunStands (flat_map at_top (rule_at cut)) (flat_map at_top (flat_map rule_at cs)) (rule-stands cut.front cut.mark each.0) (rules-stand cs each.1))
+
+  pub sheet-stands : (text : List ℕ) (cs : List Component) → Reads text (words_all cs) → AllStand (runs_of (sheet_of cs))
+  sheet-stands text cs reads =
+      let whole : StandsAt cs [] = record { reads = subst (λ (t : List ℕ). ReadsTo t (words_all cs) []) (text-spelled text (words_all cs) [] reads) reads } in
+      rules-stand (cuts is_braces cs) (marks-stand laws is_braces (cuts is_braces cs) cs [] (joins-cuts is_braces cs) whole)

@@ -1,0 +1,18 @@
+ghost use Rattle.css_rules.specs.Runs.{runs_of};
+ghost use Rattle.css_rules.specs.Sheets.{sheet_of, sheet_refusals};
+ghost use Rattle.css_rules.specs.Standing.{AllStand};
+ghost use Rattle.css_tokens.specs.Tokens.{Reads};
+ghost use Rattle.css_tokens.specs.Trees.{all_formed, words_all};
+ghost use Rattle.css_tokens.specs.declared.component.Component.{Component};
+ghost use Rattle.std.specs.Prelude.{◌≡◌, ℕ, List, [], IsTrue};
+
+use css_tokens::values_again;
+
+/// Each value of a sheet stands in the sheet's text before a stop: where the components are all that the text reads as,
+/// the tokens of the value are read there one after another, and behind them is the end of the text, white space, a
+/// comment, `;`, a closing bracket, or the `!` of `!important`.
+pub fn values_stand()
+    ensures { (text : List ℕ) (cs : List Component) → Reads text (words_all cs) → IsTrue (all_formed cs) → sheet_refusals cs ≡ [] → AllStand (runs_of (sheet_of cs)) }
+{
+    values_again();
+}
