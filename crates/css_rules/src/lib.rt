@@ -13,12 +13,8 @@ mod sheet_laws;
 mod standing_law;
 
 pub use places_law::places_do_not_matter;
-pub use reader::RuleFault;
+pub use reader::{RuleFault, read_sheet};
 pub use refusal::{Refusal, Sought};
 pub use sheet::{Declaration, Item, Sheet, Style};
-<<<<<<< HEAD
 pub use sheet_laws::{sheets_are_printable, sheets_are_read_again};
-=======
-pub use sheet_laws::sheets_are_printable;
 pub use standing_law::values_stand;
->>>>>>> a565de198b43b9a4db6d785128969dd2089be4d4
