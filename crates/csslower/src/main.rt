@@ -1,0 +1,17 @@
+#![tactic(auto)]
+
+mod gate;
+mod judge;
+mod one_file;
+mod put_text;
+mod refuse;
+mod run;
+mod say;
+mod status;
+mod words;
+
+use std::io;
+
+fn main(rt: HostRuntime) -> io::Result<()> {
+    Ok(())
+}
