@@ -2,6 +2,7 @@
 
 mod gate;
 mod judge;
+mod load;
 mod one_file;
 mod put_text;
 mod refuse;

@@ -9,12 +9,13 @@ ghost use Rattle.csslower.specs.Words.{entry_of};
 
 use crate::gate::Gate;
 use crate::judge::{finding_at, judge, lack};
+use crate::load::{Load, read_whole};
 use crate::refuse::refuse;
 use crate::say::{say, say_unread};
 use crate::status::{Status, WordKind};
 use crate::words::entry;
 use cascade_spec::{Code, LimitKind};
-use css_outside::{Files, FilesFault, Outbox};
+use css_outside::{Files, Outbox};
 use std::alloc::Global;
 
 /// Reads the stylesheet that the words name, and writes it for older browsers to standard output. An answer other than
@@ -71,17 +72,17 @@ fn run_entry<F: Files, O: Outbox>(
     ensures ready { ReadyFits (O.ready out.old) (O.ready out.new) result }
     ensures said { Told (O.held out.old) (O.held out.new) (Said path.now (option_map (λ files. bytes_under files path.now) (F.told files.old)) (Rose (O.message_faults out.old) (O.message_faults out.new)) result) }
 {
-    match files.read(alloc, path, 4_194_305) {
-        Ok(Some(source)) if source.len() > 4_194_304 => {
+    match read_whole(alloc, path, files) {
+        Load::Whole(source) => judge(alloc, path, source.as_slice(), out),
+        Load::Long => {
             say(out, "csslower: limit L2 passed\n");
             Status::Limit(LimitKind::L2)
         }
-        Ok(Some(source)) => judge(alloc, path, source.as_slice(), out),
-        Ok(None) => refuse(alloc, path, &[], finding_at(0, Code::Missing), out),
-        Err(FilesFault::Failed) => {
+        Load::Missing => refuse(alloc, path, &[], finding_at(0, Code::Missing), out),
+        Load::Failed => {
             say_unread(out, path);
             Status::ReadFault
         }
-        Err(FilesFault::Memory) => lack(out),
+        Load::Memory => lack(out),
     }
 }
