@@ -1,8 +1,8 @@
 -- A text that is put in two parts.
-use Rattle.std.proofs.Common.{◌≡◌, ◌≢◌, ℕ, ◌+◌, ◌≤◌, List, ◌++◌, length, Option, Some, None, IsSome, arith, append_assoc, length-append, ◌∙◌, sym, ap, refl}
+use Rattle.std.proofs.Common.{◌≡◌, ℕ, List, ◌++◌, Option, Some, None, arith, append_assoc, length-append, ◌∙◌, sym, ap}
 use Rattle.css_outside.specs.Names.{Names, Told, bytes_under}
 use Rattle.css_outside.specs.Putting.{Puts}
-use Rattle.csslower.specs.Writing.{PutsBut, PutsFront}
+use Rattle.csslower.specs.Writing.{PutsFront}
 
 -- two steps, of which each was told
 pub told_then : (a b c : Option Names) (P Q R : Names → Names → Type 0) → Told a b P → Told b c Q → ((x y z : Names) → P x y → Q y z → R x z) → Told a c R
@@ -22,19 +22,27 @@ grown_then at_first between at_last first second rest e f = f ∙ ap (λ bytes. 
 
 -- the second part is put from its front where the first was put whole
 pub front_then : (name first second : List ℕ) (x y z : Names) → Puts name first x y → PutsFront name second y z → PutsFront name (first ++ second) x z
-front_then name first second x y z p (rest, q) = (rest, record {
-  others = λ other away. q.others other away ∙ p.others other away;
-  grown = grown_then (bytes_under x name) (bytes_under y name) (bytes_under z name) first second rest p.grown q.grown;
-  within = simp length-append (omega (arith, q.within));
-  stays = λ held. q.stays (p.stays held) })
+front_then name first second x y z p (rest, q) = (
+  rest,
+  record {
+    others = λ other away. q.others other away ∙ p.others other away;
+    grown = grown_then (bytes_under x name) (bytes_under y name) (bytes_under z name) first second rest p.grown q.grown;
+    within = simp length-append (omega (arith, q.within));
+    stays = λ held. q.stays (p.stays held);
+  },
+)
 
 -- the second part is left out where the first was not put whole
 pub front_alone : (name first second : List ℕ) (x y : Names) → PutsFront name first x y → PutsFront name (first ++ second) x y
-front_alone name first second x y (rest, q) = (rest ++ second, record {
-  others = q.others;
-  grown = sym (append_assoc (bytes_under y name) rest second) ∙ ap (λ bytes. bytes ++ second) q.grown ∙ append_assoc (bytes_under x name) first second;
-  within = simp length-append (omega (arith, q.within));
-  stays = q.stays })
+front_alone name first second x y (rest, q) = (
+  rest ++ second,
+  record {
+    others = q.others;
+    grown = sym (append_assoc (bytes_under y name) rest second) ∙ ap (λ bytes. bytes ++ second) q.grown ∙ append_assoc (bytes_under x name) first second;
+    within = simp length-append (omega (arith, q.within));
+    stays = q.stays;
+  },
+)
 
 pub told_front_then : (name first second : List ℕ) (a b c : Option Names) → Told a b (Puts name first) → Told b c (PutsFront name second) → Told a c (PutsFront name (first ++ second))
 told_front_then name first second a b c p q = told_then a b c (Puts name first) (PutsFront name second) (PutsFront name (first ++ second)) p q (front_then name first second)

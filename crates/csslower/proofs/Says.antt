@@ -31,7 +31,8 @@ said_after line failed text x y z apart (rest, put) said =
     let same : unwrap_or (y message) [] ++ line ≡ unwrap_or (x message) [] ++ line = ap (λ (m : Option (List ℕ)). unwrap_or m [] ++ line) (put.others message apart) in
     record {
       front = (said.front.0, said.front.1 ∙ same, said.front.2);
-      whole = λ none. said.whole none ∙ same }
+      whole = λ none. said.whole none ∙ same;
+    }
 
 pub told_said_after : (line : List ℕ) (failed : Type 0) (text : List ℕ) (a b c : Option Names) → message ≢ standard → Told a b (PutsFront standard text) → Told b c (Says line failed) → Told a c (Says line failed)
 told_said_after line failed text a b c apart put said =

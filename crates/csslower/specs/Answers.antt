@@ -1,5 +1,5 @@
 -- Which answer a file gets.
-use Rattle.std.specs.Prelude.{◌≡◌, ℕ, ◌<◌, ◌≤◌, List, length, IsTrue, false, Option, Some, None, IfSome, IsSome}
+use Rattle.std.specs.Prelude.{◌≡◌, ℕ, ◌<◌, List, length, IsTrue, false, Option, Some, None, IfSome, IsSome}
 use Rattle.cascade_spec.specs.declared.finding.Code.{Code}
 use Rattle.cascade_spec.specs.declared.finding.Code.TheVariants.{Missing, Unbuilt}
 use Rattle.cascade_spec.specs.declared.finding.Finding.{Finding}
@@ -33,7 +33,7 @@ IsLong (Some bytes) = 4194304 < length bytes
 abbrev pub StandsFirst : List ℕ → Option (List ℕ) → ℕ → Code → Type 0
 StandsFirst path None offset code = (offset ≡ 0) × (code ≡ Missing)
 StandsFirst path (Some bytes) offset code =
-  (IsTrue (is_scoped path) → (offset ≡ 0) × (code ≡ Unbuilt)) × (is_scoped path ≡ false → HasFinding bytes code offset)
+    (IsTrue (is_scoped path) → (offset ≡ 0) × (code ≡ Unbuilt)) × (is_scoped path ≡ false → HasFinding bytes code offset)
 
 -- the finding has the one file's number, and stands first against it
 abbrev pub IsFirst : List ℕ → Option (List ℕ) → Finding → Type 0

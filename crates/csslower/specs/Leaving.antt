@@ -1,7 +1,6 @@
 -- What a run leaves, by its answer.
-use Rattle.std.specs.Prelude.{◌≡◌, ◌⊎◌, List, [], ◌∷◌, ◌++◌, ℕ, Option, IfSome, IsSome}
+use Rattle.std.specs.Prelude.{◌≡◌, ◌⊎◌, List, [], ◌∷◌, ◌++◌, ℕ, Option, IfSome}
 use Rattle.css_outside.specs.Names.{Names, Told}
-use Rattle.css_outside.specs.Putting.{Puts}
 use Rattle.cascade_spec.specs.Readings.{KeepsWinners}
 use Rattle.csslower.specs.Writing.{standard, WroteAll, WroteFront, SameOutputs}
 use Rattle.csslower.specs.declared.status.Status.{Status}

@@ -53,12 +53,7 @@ pub fn run<F: Files, O: Outbox, G: Gate + Sync>(
 }
 
 // Runs with this entry.
-fn run_entry<F: Files, O: Outbox>(
-    alloc: Global,
-    path: &str,
-    files: &mut F,
-    out: &mut O,
-) -> Status
+fn run_entry<F: Files, O: Outbox>(alloc: Global, path: &str, files: &mut F, out: &mut O) -> Status
     ensures command { IsOfCommand result }
     ensures winners { IfSome (F.told files.old) (λ told. WinnersFit (told path.now) (O.held out.old) (O.held out.new) result) }
     ensures limit { IfSome (F.told files.old) (λ told. LimitFits (told path.now) result) }

@@ -9,5 +9,5 @@ returns-in-Ok-clause-said g c = λ path source.
     let held = g.O.Outbox.held c.write_ready.new.out in
     let faults = g.O.Outbox.message_faults c.write_ready.new.out in
     subst (λ (h : Option Names). Told h held (Said path source (Rose (g.O.Outbox.message_faults c.args.out.now) faults) c.write_ready.result)) c.make_ready.ensures.held
-      (subst (λ (n : ℕ). Told (g.O.Outbox.held c.make_ready.new.self) held (Said path source (Rose n faults) c.write_ready.result)) c.make_ready.ensures.message_count
-        (c.write_ready.ensures.said path source))
+    (subst (λ (n : ℕ). Told (g.O.Outbox.held c.make_ready.new.self) held (Said path source (Rose n faults) c.write_ready.result)) c.make_ready.ensures.message_count
+    (c.write_ready.ensures.said path source))

@@ -1,4 +1,4 @@
-use Rattle.std.proofs.Common.{◌≡◌, ◌≢◌, ℕ, subst, sym}
+use Rattle.std.proofs.Common.{◌≢◌, ℕ, subst}
 use Rattle.css_outside.specs.Counts.{Rose}
 use Rattle.css_outside.specs.Names.{Told}
 use Rattle.css_outside.specs.Putting.{message}
@@ -15,4 +15,4 @@ returns-in-Err-clause-said g c = λ path source.
     let faults = g.O.Outbox.message_faults c.say.new.out in
     let failed : Type 0 = Rose (g.O.Outbox.message_faults c.put_text.new.out) faults in
     subst (λ (n : ℕ). Told (g.O.Outbox.held c.args.out.now) (g.O.Outbox.held c.say.new.out) (Says (unwritten_line standard) (Rose n faults))) (c.put_text.ensures.own_messages away)
-      (told_said_after (unwritten_line standard) failed c.args.text.now (g.O.Outbox.held c.args.out.now) (g.O.Outbox.held c.put_text.new.out) (g.O.Outbox.held c.say.new.out) apart c.put_text.ensures.front c.say.ensures.said)
+    (told_said_after (unwritten_line standard) failed c.args.text.now (g.O.Outbox.held c.args.out.now) (g.O.Outbox.held c.put_text.new.out) (g.O.Outbox.held c.say.new.out) apart c.put_text.ensures.front c.say.ensures.said)

@@ -11,7 +11,8 @@ invariant-loop-count g l = record {
   messages : g.O.Outbox.message_faults l.fn.out ≤ g.O.Outbox.message_faults l.out;
   others : g.O.Outbox.faults l.fn.out ≤ g.O.Outbox.faults l.out;
   own_messages : l.name ≢ message → g.O.Outbox.message_faults l.out ≡ g.O.Outbox.message_faults l.fn.out;
-  own_others : l.name ≡ message → g.O.Outbox.faults l.out ≡ g.O.Outbox.faults l.fn.out }
+  own_others : l.name ≡ message → g.O.Outbox.faults l.out ≡ g.O.Outbox.faults l.fn.out;
+}
 
 abbrev pub decreases-loop-count : goal.decreases-loop-count
 decreases-loop-count g l = length l.rest
