@@ -20,7 +20,7 @@ number_of WriteFault = 4
 number_of Memory = 5
 number_of (Limit kind) = 6
 
--- Where the words are a command and the files are told: a fact of the entry's path, and of its bytes if it is there.
+-- Where the words are a command and the files are told: a fact of the entry's path, and of the file's bytes if it is there.
 abbrev pub ForEntry : List (List ℕ) → Option Names → (List ℕ → Option (List ℕ) → Type 0) → Type 0
 ForEntry words told P = IfSome (entry_of words) (λ path. IfSome told (λ files. P path (files path)))
 
@@ -29,7 +29,7 @@ abbrev pub IsLong : Option (List ℕ) → Type 0
 IsLong None = ⊥
 IsLong (Some bytes) = 4194304 < length bytes
 
--- this stands first against the file: that it is not there, that its names are scoped, or what stands against its text
+-- This stands first against the file: that it is not there, else that its names are scoped, else what stands against its text.
 abbrev pub StandsFirst : List ℕ → Option (List ℕ) → ℕ → Code → Type 0
 StandsFirst path None offset code = (offset ≡ 0) × (code ≡ Missing)
 StandsFirst path (Some bytes) offset code =
@@ -44,7 +44,7 @@ abbrev pub IsFine : List ℕ → Option (List ℕ) → Type 0
 IsFine path None = ⊥
 IsFine path (Some bytes) = (is_scoped path ≡ false) × IsAccepted bytes
 
--- the words are a command, but where the answer is of their use
+-- the answer is that the words are no command exactly where they are none
 abbrev pub UsageFits : List (List ℕ) → Status → Type 0
 UsageFits words (Usage kind) = entry_of words ≡ None
 UsageFits words Done = IsSome (entry_of words)

@@ -26,7 +26,7 @@ WinnersFit found before now ReadFault = Unit {0}
 WinnersFit found before now Memory = Unit {0}
 WinnersFit found before now (Limit kind) = Unit {0}
 
--- standard output is made ready before the first put to it, and no other name
+-- the names made ready: standard output where the text is put to it, and no other
 abbrev pub ReadyFits : List (List ℕ) → List (List ℕ) → Status → Type 0
 ReadyFits before now Done = now ≡ before ++ standard ∷ []
 ReadyFits before now WriteFault = now ≡ before ++ standard ∷ []
