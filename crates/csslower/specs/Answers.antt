@@ -1,0 +1,125 @@
+-- Which answer a file gets.
+use Rattle.std.specs.Prelude.{◌≡◌, ℕ, ◌<◌, List, length, IsTrue, false, Option, Some, None, IfSome, IsSome}
+use Rattle.cascade_spec.specs.declared.finding.Code.{Code}
+use Rattle.cascade_spec.specs.declared.finding.Code.TheVariants.{Missing, Unbuilt}
+use Rattle.cascade_spec.specs.declared.finding.Finding.{Finding}
+use Rattle.cascade_spec.specs.declared.finding.LimitKind.TheVariants.{L2}
+use Rattle.css_outside.specs.Names.{Names}
+use Rattle.csslower.specs.Words.{entry_of, is_scoped}
+use Rattle.csslower.specs.Findings.{HasFinding, IsAccepted}
+use Rattle.csslower.specs.declared.status.Status.{Status}
+use Rattle.csslower.specs.declared.status.Status.TheVariants.{Done, Refused, Usage, ReadFault, WriteFault, Memory, Limit}
+
+-- the number with which the program ends
+abbrev pub number_of : Status → ℕ
+number_of Done = 0
+number_of (Refused finding) = 1
+number_of (Usage kind) = 2
+number_of ReadFault = 3
+number_of WriteFault = 4
+number_of Memory = 5
+number_of (Limit kind) = 6
+
+-- Where the words are a command and the files are told: a fact of the entry's path, and of the file's bytes if it is there.
+abbrev pub ForEntry : List (List ℕ) → Option Names → (List ℕ → Option (List ℕ) → Type 0) → Type 0
+ForEntry words told P = IfSome (entry_of words) (λ path. IfSome told (λ files. P path (files path)))
+
+-- the file is there, and longer than 4 MiB
+abbrev pub IsLong : Option (List ℕ) → Type 0
+IsLong None = ⊥
+IsLong (Some bytes) = 4194304 < length bytes
+
+-- This stands first against the file: that it is not there, else that its names are scoped, else what stands against its text.
+abbrev pub StandsFirst : List ℕ → Option (List ℕ) → ℕ → Code → Type 0
+StandsFirst path None offset code = (offset ≡ 0) × (code ≡ Missing)
+StandsFirst path (Some bytes) offset code =
+    (IsTrue (is_scoped path) → (offset ≡ 0) × (code ≡ Unbuilt)) × (is_scoped path ≡ false → HasFinding bytes code offset)
+
+-- the finding has the one file's number, and stands first against it
+abbrev pub IsFirst : List ℕ → Option (List ℕ) → Finding → Type 0
+IsFirst path found finding = (finding.place.file ≡ 0) × StandsFirst path found finding.place.offset finding.code
+
+-- the file is there, and nothing stands against it
+abbrev pub IsFine : List ℕ → Option (List ℕ) → Type 0
+IsFine path None = ⊥
+IsFine path (Some bytes) = (is_scoped path ≡ false) × IsAccepted bytes
+
+-- the answer is that the words are no command exactly where they are none
+abbrev pub UsageFits : List (List ℕ) → Status → Type 0
+UsageFits words (Usage kind) = entry_of words ≡ None
+UsageFits words Done = IsSome (entry_of words)
+UsageFits words (Refused finding) = IsSome (entry_of words)
+UsageFits words ReadFault = IsSome (entry_of words)
+UsageFits words WriteFault = IsSome (entry_of words)
+UsageFits words Memory = IsSome (entry_of words)
+UsageFits words (Limit kind) = IsSome (entry_of words)
+
+-- the answer is the limit where the file is too long, and no answer that judges the file where it is
+abbrev pub LimitFits : Option (List ℕ) → Status → Type 0
+LimitFits found (Limit L2) = IsLong found
+LimitFits found Done = IsLong found → ⊥
+LimitFits found (Refused finding) = IsLong found → ⊥
+LimitFits found WriteFault = IsLong found → ⊥
+LimitFits found (Usage kind) = Unit {0}
+LimitFits found ReadFault = Unit {0}
+LimitFits found Memory = Unit {0}
+
+-- a refusal names what stands first against the file
+abbrev pub RefusalFits : List ℕ → Option (List ℕ) → Status → Type 0
+RefusalFits path found (Refused finding) = IsFirst path found finding
+RefusalFits path found Done = Unit {0}
+RefusalFits path found (Usage kind) = Unit {0}
+RefusalFits path found ReadFault = Unit {0}
+RefusalFits path found WriteFault = Unit {0}
+RefusalFits path found Memory = Unit {0}
+RefusalFits path found (Limit kind) = Unit {0}
+
+-- a text is written only where nothing stands against the file
+abbrev pub WritingFits : List ℕ → Option (List ℕ) → Status → Type 0
+WritingFits path found Done = IsFine path found
+WritingFits path found WriteFault = IsFine path found
+WritingFits path found (Refused finding) = Unit {0}
+WritingFits path found (Usage kind) = Unit {0}
+WritingFits path found ReadFault = Unit {0}
+WritingFits path found Memory = Unit {0}
+WritingFits path found (Limit kind) = Unit {0}
+
+-- the answer of a run in which nothing failed: what stands against the file, `Done` where nothing does, or want of memory
+abbrev pub IsExact : List ℕ → Option (List ℕ) → Status → Type 0
+IsExact path found Done = (IsLong found → ⊥) × IsFine path found
+IsExact path found (Refused finding) = (IsLong found → ⊥) × IsFirst path found finding
+IsExact path found (Limit L2) = IsLong found
+IsExact path found Memory = Unit {0}
+IsExact path found (Usage kind) = ⊥
+IsExact path found ReadFault = ⊥
+IsExact path found WriteFault = ⊥
+
+-- an answer that words which are a command can get
+abbrev pub IsOfCommand : Status → Type 0
+IsOfCommand (Usage kind) = ⊥
+IsOfCommand Done = Unit {0}
+IsOfCommand (Refused finding) = Unit {0}
+IsOfCommand ReadFault = Unit {0}
+IsOfCommand WriteFault = Unit {0}
+IsOfCommand Memory = Unit {0}
+IsOfCommand (Limit kind) = Unit {0}
+
+-- an answer that a file which was read, and is not too long, can get
+abbrev pub IsOfText : Status → Type 0
+IsOfText Done = Unit {0}
+IsOfText (Refused finding) = Unit {0}
+IsOfText WriteFault = Unit {0}
+IsOfText Memory = Unit {0}
+IsOfText (Usage kind) = ⊥
+IsOfText ReadFault = ⊥
+IsOfText (Limit kind) = ⊥
+
+-- the text is written, whole or in part
+abbrev pub IsOfWriting : Status → Type 0
+IsOfWriting Done = Unit {0}
+IsOfWriting WriteFault = Unit {0}
+IsOfWriting (Refused finding) = ⊥
+IsOfWriting (Usage kind) = ⊥
+IsOfWriting ReadFault = ⊥
+IsOfWriting Memory = ⊥
+IsOfWriting (Limit kind) = ⊥

@@ -1,0 +1,98 @@
+ghost use Rattle.std.specs.Prelude.{◌≡◌, ◌≤◌, Some, ℕ, List, Option, length};
+ghost use Rattle.css_outside.specs.Counts.{Rose};
+ghost use Rattle.css_outside.specs.Names.{Told};
+ghost use Rattle.csslower.specs.Answers.{LimitFits, RefusalFits, WritingFits, IsExact, IsOfText, IsOfWriting};
+ghost use Rattle.csslower.specs.Leaving.{Leaves, WinnersFit, ReadyFits, Writes};
+ghost use Rattle.css_outside.specs.Putting.{IsReady};
+ghost use Rattle.csslower.specs.Lines.{memory_line};
+ghost use Rattle.csslower.specs.Saying.{Said, Says};
+ghost use Rattle.csslower.specs.Writing.{standard, SameOutputs};
+
+use crate::one_file::{TextFault, rewrite};
+use crate::put_text::put_text;
+use crate::refuse::refuse;
+use crate::say::say;
+use crate::status::Status;
+use crate::words::is_scoped;
+use cascade_spec::{Code, Finding, Place};
+use css_outside::Outbox;
+use std::alloc::Global;
+
+// Writes the file of this path and text again, or refuses it.
+pub(crate) fn judge<O: Outbox>(alloc: Global, path: &str, source: &[u8], out: &mut O) -> Status
+    requires { length source.now ≤ 4194304 }
+    ensures text { IsOfText result }
+    ensures winners { WinnersFit (Some source.now) (O.held out.old) (O.held out.new) result }
+    ensures limit { LimitFits (Some source.now) result }
+    ensures refused { RefusalFits path.now (Some source.now) result }
+    ensures accepted { WritingFits path.now (Some source.now) result }
+    ensures exactly { (Rose (O.faults out.old) (O.faults out.new) → ⊥) → IsExact path.now (Some source.now) result }
+    ensures write_fault { result ≡ Status.WriteFault → Rose (O.faults out.old) (O.faults out.new) }
+    ensures held { Leaves (O.held out.old) (O.held out.new) result }
+    ensures ready { ReadyFits (O.ready out.old) (O.ready out.new) result }
+    ensures said { Told (O.held out.old) (O.held out.new) (Said path.now (Some source.now) (Rose (O.message_faults out.old) (O.message_faults out.new)) result) }
+{
+    if is_scoped(path) {
+        return refuse(alloc, path, source, finding_at(0, Code::Unbuilt), out);
+    }
+    match rewrite(alloc, source) {
+        Ok(text) => write(out, text.as_slice()),
+        Err(TextFault::Finding { code, offset }) => {
+            refuse(alloc, path, source, finding_at(offset, code), out)
+        }
+        Err(TextFault::Memory) => lack(out),
+    }
+}
+
+// A finding in the one file.
+pub(crate) fn finding_at(offset: u32, code: Code) -> Finding
+    ensures file { result.place.file ≡ 0 }
+    ensures offset { result.place.offset ≡ offset }
+    ensures code { result.code ≡ code }
+{
+    let place = Place { file: 0, offset };
+    Finding { place, code }
+}
+
+// Puts the text to standard output.
+fn write<O: Outbox>(out: &mut O, text: &[u8]) -> Status
+    ensures written { Writes text.now (O.held out.old) (O.held out.new) result }
+    ensures write_fault { result ≡ Status.WriteFault → Rose (O.faults out.old) (O.faults out.new) }
+    ensures ready { ReadyFits (O.ready out.old) (O.ready out.new) result }
+    ensures said { (path : List ℕ) (source : Option (List ℕ)) → Told (O.held out.old) (O.held out.new) (Said path source (Rose (O.message_faults out.old) (O.message_faults out.new)) result) }
+{
+    match out.make_ready("-") {
+        Ok(()) => write_ready(out, text),
+        Err(_) => lack(out),
+    }
+}
+
+// Puts the text to standard output, which is ready.
+fn write_ready<O: Outbox>(out: &mut O, text: &[u8]) -> Status
+    requires { IsReady (O.ready out.old) standard }
+    ensures answer { IsOfWriting result }
+    ensures written { Writes text.now (O.held out.old) (O.held out.new) result }
+    ensures write_fault { result ≡ Status.WriteFault → Rose (O.faults out.old) (O.faults out.new) }
+    ensures ready { O.ready out.new ≡ O.ready out.old }
+    ensures said { (path : List ℕ) (source : Option (List ℕ)) → Told (O.held out.old) (O.held out.new) (Said path source (Rose (O.message_faults out.old) (O.message_faults out.new)) result) }
+{
+    match put_text(out, "-", text) {
+        Ok(()) => Status::Done,
+        Err(_) => {
+            say(out, "csslower: cannot write -\n");
+            Status::WriteFault
+        }
+    }
+}
+
+// The answer where memory is refused.
+pub(crate) fn lack<O: Outbox>(out: &mut O) -> Status
+    ensures answer { result ≡ Status.Memory }
+    ensures ready { O.ready out.new ≡ O.ready out.old }
+    ensures others { O.faults out.new ≡ O.faults out.old }
+    ensures held { Told (O.held out.old) (O.held out.new) SameOutputs }
+    ensures said { Told (O.held out.old) (O.held out.new) (Says memory_line (Rose (O.message_faults out.old) (O.message_faults out.new))) }
+{
+    say(out, "csslower: out of memory\n");
+    Status::Memory
+}
