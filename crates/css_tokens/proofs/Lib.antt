@@ -29,3 +29,4 @@ pub mod NestLemmas
 pub mod PairingLemmas
 pub mod Beginnings
 pub mod ValueReads
+pub mod Within

@@ -1,4 +1,4 @@
-ghost use Rattle.std.specs.Prelude.{ℕ, List, ◌∷◌, [], ◌++◌, ◌≡◌, ◌≢◌, IsTrue, true, false, codes};
+ghost use Rattle.std.specs.Prelude.{ℕ, List, ◌∷◌, [], ◌++◌, ◌≡◌, ◌≢◌, ◌≤◌, IsTrue, true, false, codes, length, map};
 ghost use Rattle.std.specs.List.{AllByRecursion, list_all};
 ghost use Rattle.std.specs.Str.{str_to_ascii_lowercase};
 ghost use Rattle.css_tokens.specs.declared.component.Component.{Component};
@@ -6,17 +6,28 @@ ghost use Rattle.css_tokens.specs.declared.class.Class.TheVariants as class;
 ghost use Rattle.css_tokens.specs.declared.kind.Kind.TheVariants as kind;
 ghost use Rattle.css_tokens.specs.Again.{StaysFirst, Alike, KeepsQuote, is_solid, is_stop, is_end_kind, word_from, marks, begins_none, after_ident, after_name, digit, digit_or_dot};
 ghost use Rattle.css_tokens.specs.Characters.{name, white};
-ghost use Rattle.css_tokens.specs.Piece.{Word, spelled};
+ghost use Rattle.css_tokens.specs.Pairing.{IsMismatch, IsTooDeep, IsUnclosed, places_rise};
+ghost use Rattle.css_tokens.specs.Piece.{Piece, Word, spelled, word_of};
 ghost use Rattle.css_tokens.specs.PlainNames.{is_plain_name};
-ghost use Rattle.css_tokens.specs.Tokens.{First, Reads, ReadsTo, StopsAt, classes_of, is_plain, is_url, quote_follows, spells};
+ghost use Rattle.css_tokens.specs.Tokens.{First, IsPlaced, Reads, ReadsTo, StopsAt, classes_of, is_plain, is_url, quote_follows, spells};
 ghost use Rattle.css_tokens.specs.Trees.{words_all, all_formed, is_text};
 ghost use Rattle.css_tokens.specs.Values.{is_gap, value_words, value_text};
 
-/// A text reads in at most one way, or has a fault at one place, and never both.
+/// A text reads in at most one way, or has a fault at one place within it, and never both.
 pub fn one_reading()
     ensures one { (t : List ℕ) (a b : List Word) → Reads t a → Reads t b → a ≡ b }
     ensures place { (t : List ℕ) (o p : ℕ) → StopsAt t o → StopsAt t p → o ≡ p }
     ensures either { (t : List ℕ) (ws : List Word) (o : ℕ) → Reads t ws → StopsAt t o → ⊥ }
+    ensures within { (t : List ℕ) (o : ℕ) → StopsAt t o → o ≤ length t }
+{}
+
+/// The places of the tokens of a text rise and lie within it, and so do the places of faults of brackets.
+pub fn places_rise_in_a_text()
+    ensures rise { (t : List ℕ) (ps : List Piece) → Reads t (map word_of ps) → IsPlaced 0 ps → IsTrue (places_rise ps (length t)) }
+    ensures within { (t : List ℕ) (ps : List Piece) → Reads t (map word_of ps) → IsPlaced 0 ps → AllByRecursion (λ p. p.at ≤ length t) ps }
+    ensures mismatch { (ps : List Piece) (end o : ℕ) → AllByRecursion (λ p. p.at ≤ end) ps → IsMismatch ps o → o ≤ end }
+    ensures deep { (ps : List Piece) (end o : ℕ) → AllByRecursion (λ p. p.at ≤ end) ps → IsTooDeep ps o → o ≤ end }
+    ensures unclosed { (ps : List Piece) (end o : ℕ) → IsUnclosed ps end o → o ≤ end }
 {}
 
 /// Words that are written one after another are read again. A token that is neither white space nor a comment stays the
