@@ -34,3 +34,5 @@ pub mod SheetReads
 pub mod StandLists
 pub mod StandCuts
 pub mod StandSheets
+pub mod Within
+pub mod WithinRefusals

@@ -11,6 +11,7 @@ pub mod selector;
 mod sheet;
 mod sheet_laws;
 mod standing_law;
+mod within_law;
 
 pub use places_law::places_do_not_matter;
 pub use reader::{RuleFault, read_sheet};
@@ -18,3 +19,4 @@ pub use refusal::{Refusal, Sought};
 pub use sheet::{Declaration, Item, Sheet, Style};
 pub use sheet_laws::{sheets_are_printable, sheets_are_read_again};
 pub use standing_law::values_stand;
+pub use within_law::refusals_stand_within;

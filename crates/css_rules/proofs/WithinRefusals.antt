@@ -1,0 +1,204 @@
+-- What a sheet is refused for stands within its text.
+use Rattle.std.proofs.Common.{◌≡◌, ℕ, ◌≤◌, List, [], ◌∷◌, Bool, true, false, Option, Some, None, MatchOption, flat_map, nat_lt, arith, subst}
+use Rattle.std.specs.Prelude.{if◌then◌else◌}
+use Rattle.std.specs.List.{list_all, find, AllByRecursion}
+use Rattle.std.proofs.lemmas.Bool.{leb-true}
+use Rattle.css_tokens.specs.declared.component.Component.{Component}
+use Rattle.css_tokens.specs.Piece.{Piece}
+use Rattle.css_tokens.specs.Trees.{pieces_all}
+use Rattle.css_rules.specs.declared.refusal.Refusal.{Refusal}
+use Rattle.css_rules.specs.declared.refusal.Refusal.TheVariants.{Syntax, Unbuilt}
+use Rattle.css_rules.specs.declared.refusal.Sought.{Sought}
+use Rattle.css_rules.specs.declared.refusal.Sought.TheVariants.{ColonOrBracket, Ampersand, RevertLayer, RevertLayerOrUrl}
+use Rattle.css_rules.specs.declared.sheet.Declaration.{Declaration}
+use Rattle.css_rules.specs.Components.{head, inside, is_ident, is_colon, is_bang, is_semicolon, is_braces, is_custom}
+use Rattle.css_rules.specs.Cuts.{Cut, cuts, trimmed, trimmed_start}
+use Rattle.css_rules.specs.Declarations.{property_name, after_colon, may_be_value, is_important, value_of, declared, declared_after, declaration_of}
+use Rattle.css_rules.specs.Refusals.{place_of, sooner, sooner_of, first_refusal, is_sought, unbuilt_at, sought_in, is_unbuilt_property}
+use Rattle.css_rules.specs.Selectors.{list_faults}
+use Rattle.css_rules.specs.Sheets.{first_place, declaration_refusals, begins_rule, item_refusals, block_refusals, first_fault, prelude_refusals_by, prelude_refusals, leftover_refusals, begins_at_rule, rule_refusals_by, rule_refusals, sheet_refusals}
+use Rattle.css_rules.proofs.FromSourceDeclarations.{each-append}
+use Rattle.css_rules.proofs.FromSourceParts.{all-start, all-trimmed, IsPart, parts-cuts}
+use Rattle.css_rules.proofs.SelectorSpelling.{and-left, and-right}
+use Rattle.css_rules.proofs.Within.{is_early, is_within, early-each, within-all, pieces-early, head-within, inside-within, faults-within}
+
+module _ (end : ℕ) where
+  abbrev IsWithin : Refusal → Type 0
+  IsWithin r = place_of r ≤ end
+
+  abbrev AreWithin : List Refusal → Type 0
+  AreWithin rs = AllByRecursion IsWithin rs
+
+  abbrev all_within : List Component → Bool
+  all_within cs = list_all (is_within end) cs
+
+  -- Sought tokens.
+
+  found-or : (p : Piece) (o : Option Piece) (here : Bool) → p.at ≤ end → AreWithin (unbuilt_at o) → AreWithin (unbuilt_at (if here then Some p else o))
+  found-or p o true h k = (h, tt)
+  found-or p o false h k = k
+
+  found-within : (test : Piece → Bool) (ps : List Piece) → list_all (is_early end) ps ≡ true → AreWithin (unbuilt_at (find test ps))
+  found-within test [] h = tt
+  found-within test (p ∷ ps) h =
+      found-or p (find test ps) (test p) (leb-true p.at end (and-left (is_early end p) (list_all (is_early end) ps) h))
+      (found-within test ps (and-right (is_early end p) (list_all (is_early end) ps) h))
+
+  sought-within : (sought : Sought) (cs : List Component) → all_within cs ≡ true → AreWithin (sought_in sought cs)
+  sought-within sought cs h = found-within (is_sought sought) (pieces_all cs) (pieces-early end cs h)
+
+  -- Values of declarations.
+
+  abbrev ReadsWithin : Option (List Component × Bool) → Type 0
+  ReadsWithin o = MatchOption o (Unit {0}) (λ value. all_within value.0 ≡ true)
+
+  abbrev DeclaresWithin : Option Declaration → Type 0
+  DeclaresWithin o = MatchOption o (Unit {0}) (λ d. all_within d.value ≡ true)
+
+  marked-within : (b important : Bool) (v : List Component) → all_within v ≡ true → ReadsWithin (if b then Some (v, important) else None)
+  marked-within true important v h = h
+  marked-within false important v h = tt
+
+  value-within : (cs : List Cut) → AllByRecursion (IsPart (is_within end) is_bang) cs → ReadsWithin (value_of cs)
+  value-within [] h = tt
+  value-within (value ∷ []) h = all-trimmed (is_within end) value.front h.0.kept
+  value-within (value ∷ mark ∷ []) h = marked-within (is_important (trimmed mark.front)) true (trimmed value.front) (all-trimmed (is_within end) value.front h.0.kept)
+  value-within (value ∷ mark ∷ more ∷ cs) h = tt
+
+  made-within : (name : Piece) (v : List Component × Bool) (b : Bool) → all_within v.0 ≡ true
+      → DeclaresWithin (if b then Some (record { name = property_name name.text; value = v.0; important = v.1; at = name.at }) else None)
+  made-within name v true h = h
+  made-within name v false h = tt
+
+  declared-within : (name : Piece) (o : Option (List Component × Bool)) → ReadsWithin o → DeclaresWithin (declared name o)
+  declared-within name None h = tt
+  declared-within name (Some v) h = made-within name v (may_be_value (is_custom name.text) v.0) h
+
+  abbrev TailWithin : Option (List Component) → Type 0
+  TailWithin o = MatchOption o (Unit {0}) (λ tail. all_within tail ≡ true)
+
+  colon-at : (cs : List Component) (b : Bool) → all_within cs ≡ true → TailWithin (if b then Some cs else None)
+  colon-at cs true h = h
+  colon-at cs false h = tt
+
+  tail-within : (cs : List Component) → all_within cs ≡ true → TailWithin (after_colon cs)
+  tail-within [] h = tt
+  tail-within (c ∷ cs) h = colon-at cs (is_colon c) (and-right (is_within end c) (all_within cs) h)
+
+  after-within : (name : Piece) (o : Option (List Component)) → TailWithin o → DeclaresWithin (declared_after name o)
+  after-within name None h = tt
+  after-within name (Some tail) h = declared-within name (value_of (cuts is_bang tail)) (value-within (cuts is_bang tail) (parts-cuts (is_within end) is_bang tail h))
+
+  named-within : (b : Bool) (o : Option Declaration) → DeclaresWithin o → DeclaresWithin (if b then o else None)
+  named-within true o h = h
+  named-within false o h = tt
+
+  declaration-within : (cs : List Component) → all_within cs ≡ true → DeclaresWithin (declaration_of cs)
+  declaration-within [] h = tt
+  declaration-within (c ∷ cs) h =
+      let rest = all-start (is_within end) cs (and-right (is_within end c) (all_within cs) h) in
+      named-within (is_ident c) (declared_after (head c) (after_colon (trimmed_start cs))) (after-within (head c) (after_colon (trimmed_start cs)) (tail-within (trimmed_start cs) rest))
+
+  -- Items of a block.
+
+  or-unbuilt : (b : Bool) (at : ℕ) (rest : List Refusal) → at ≤ end → AreWithin rest → AreWithin (if b then Unbuilt at ∷ [] else rest)
+  or-unbuilt true at rest h k = (h, tt)
+  or-unbuilt false at rest h k = k
+
+  refused-within : (at : ℕ) (o : Option Declaration) → at ≤ end → DeclaresWithin o → AreWithin (declaration_refusals at o)
+  refused-within at None h k = (h, tt)
+  refused-within at (Some d) h k =
+      let sought : Sought = if is_custom d.name then RevertLayer else RevertLayerOrUrl in
+      each-append IsWithin (if is_unbuilt_property d.name then Unbuilt at ∷ [] else []) (sought_in sought d.value)
+      (or-unbuilt (is_unbuilt_property d.name) at [] h tt)
+      (sought-within sought d.value k)
+
+  item-within : (cs : List Component) → all_within cs ≡ true → AreWithin (item_refusals cs)
+  item-within [] h = tt
+  item-within (c ∷ cs) h =
+      let here = head-within end c (and-left (is_within end c) (all_within cs) h) in
+      or-unbuilt (begins_rule (c ∷ cs)) (head c).at (declaration_refusals (head c).at (declaration_of (c ∷ cs))) here
+      (refused-within (head c).at (declaration_of (c ∷ cs)) here (declaration-within (c ∷ cs) h))
+
+  abbrev item_at : Cut → List Refusal
+  item_at cut = item_refusals (trimmed cut.front)
+
+  items-within : (cs : List Cut) → AllByRecursion (IsPart (is_within end) is_semicolon) cs → AreWithin (flat_map item_at cs)
+  items-within [] h = tt
+  items-within (cut ∷ cs) h =
+      each-append IsWithin (item_at cut) (flat_map item_at cs) (item-within (trimmed cut.front) (all-trimmed (is_within end) cut.front h.0.kept)) (items-within cs h.1)
+
+  block-within : (block : List Component) → all_within block ≡ true → AreWithin (block_refusals block)
+  block-within block h = items-within (cuts is_semicolon block) (parts-cuts (is_within end) is_semicolon block h)
+
+  -- Preludes and rules.
+
+  fault-within : (faults : List ℕ) → AllByRecursion (λ place. place ≤ end) faults → AreWithin (first_fault faults)
+  fault-within [] h = tt
+  fault-within (at ∷ faults) h = (h.0, tt)
+
+  prelude-by : (sought : List Refusal) (prelude : List Component) (stop : ℕ) → AreWithin sought → all_within prelude ≡ true → stop ≤ end → AreWithin (prelude_refusals_by sought prelude stop)
+  prelude-by (r ∷ rs) prelude stop s h k = (s.0, tt)
+  prelude-by [] prelude stop s h k =
+      each-append IsWithin (sought_in Ampersand prelude) (first_fault (list_faults prelude stop))
+      (sought-within Ampersand prelude h)
+      (fault-within (list_faults prelude stop) (faults-within end prelude stop h k))
+
+  prelude-within : (prelude : List Component) (stop : ℕ) → all_within prelude ≡ true → stop ≤ end → AreWithin (prelude_refusals prelude stop)
+  prelude-within prelude stop h k = prelude-by (sought_in ColonOrBracket prelude) prelude stop (sought-within ColonOrBracket prelude h) h k
+
+  leftover-within : (cs : List Component) → all_within cs ≡ true → AreWithin (leftover_refusals cs)
+  leftover-within [] h = tt
+  leftover-within (c ∷ cs) h = (head-within end c (and-left (is_within end c) (all_within cs) h), tt)
+
+  marked-rule : (words prelude : List Component) (mark : Option Component) → all_within words ≡ true → all_within prelude ≡ true
+      → MatchOption mark (Unit {0}) (λ c. is_within end c ≡ true) → AreWithin (rule_refusals_by words prelude mark)
+  marked-rule words prelude None w h m = leftover-within words w
+  marked-rule words prelude (Some block) w h m =
+      each-append IsWithin (prelude_refusals prelude (head block).at) (block_refusals (inside block))
+      (prelude-within prelude (head block).at h (head-within end block m))
+      (block-within (inside block) (inside-within end block m))
+
+  start-within : (cs : List Component) → all_within cs ≡ true → first_place cs 0 ≤ end
+  start-within [] h = omega arith
+  start-within (c ∷ cs) h = head-within end c (and-left (is_within end c) (all_within cs) h)
+
+  rule-within : (cut : Cut) → IsPart (is_within end) is_braces cut → AreWithin (rule_refusals cut)
+  rule-within cut part =
+      let words = all-trimmed (is_within end) cut.front part.kept in
+      or-unbuilt (begins_at_rule (trimmed cut.front)) (first_place (trimmed cut.front) 0) (rule_refusals_by (trimmed cut.front) cut.front cut.mark)
+      (start-within (trimmed cut.front) words)
+      (marked-rule (trimmed cut.front) cut.front cut.mark words part.kept part.closed)
+
+  rules-within : (cs : List Cut) → AllByRecursion (IsPart (is_within end) is_braces) cs → AreWithin (flat_map rule_refusals cs)
+  rules-within [] h = tt
+  rules-within (cut ∷ cs) h = each-append IsWithin (rule_refusals cut) (flat_map rule_refusals cs) (rule-within cut h.0) (rules-within cs h.1)
+
+  -- The one that is named.
+
+  either-within : (b : Bool) (q r : Refusal) → IsWithin q → IsWithin r → IsWithin (if b then q else r)
+  either-within true q r h k = h
+  either-within false q r h k = k
+
+  sooner-within : (q r : Refusal) → IsWithin q → IsWithin r → IsWithin (sooner q r)
+  sooner-within (Syntax a) (Syntax b) h k = either-within (nat_lt b a) (Syntax b) (Syntax a) k h
+  sooner-within (Syntax a) (Unbuilt b) h k = either-within (nat_lt a b) (Syntax a) (Unbuilt b) h k
+  sooner-within (Unbuilt a) (Syntax b) h k = either-within (nat_lt b a) (Syntax b) (Unbuilt a) k h
+  sooner-within (Unbuilt a) (Unbuilt b) h k = either-within (nat_lt b a) (Unbuilt b) (Unbuilt a) k h
+
+  abbrev NamesWithin : Option Refusal → Type 0
+  NamesWithin o = MatchOption o (Unit {0}) IsWithin
+
+  sooner_of-within : (r : Refusal) (o : Option Refusal) → IsWithin r → NamesWithin o → NamesWithin (sooner_of (Some r) o)
+  sooner_of-within r None h k = h
+  sooner_of-within r (Some q) h k = sooner-within r q h k
+
+  first-within : (rs : List Refusal) → AreWithin rs → NamesWithin (first_refusal rs)
+  first-within [] h = tt
+  first-within (r ∷ rs) h = sooner_of-within r (first_refusal rs) h.0 (first-within rs h.1)
+
+pub refusals-within : (cs : List Component) (end : ℕ) → AllByRecursion (λ (p : Piece). p.at ≤ end) (pieces_all cs) → AllByRecursion (λ (r : Refusal). place_of r ≤ end) (sheet_refusals cs)
+refusals-within cs end h = rules-within end (cuts is_braces cs) (parts-cuts (is_within end) is_braces cs (within-all end cs (early-each end (pieces_all cs) h)))
+
+pub first_refusal-within : (cs : List Component) (end : ℕ) (r : Refusal) → AllByRecursion (λ (p : Piece). p.at ≤ end) (pieces_all cs) → first_refusal (sheet_refusals cs) ≡ Some r → place_of r ≤ end
+first_refusal-within cs end r h e = subst (λ o. MatchOption o (Unit {0}) (λ q. place_of q ≤ end)) e (first-within end (sheet_refusals cs) (refusals-within cs end h))
