@@ -1,3 +1,4 @@
 mod Parts
 mod Says
 mod Loads
+mod Printing

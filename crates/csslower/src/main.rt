@@ -7,6 +7,7 @@ mod gate;
 mod judge;
 mod load;
 mod one_file;
+mod print;
 mod put_text;
 mod refuse;
 mod run;
