@@ -2,3 +2,5 @@ mod Parts
 mod Says
 mod Loads
 mod Printing
+mod Plain
+mod TextFaults

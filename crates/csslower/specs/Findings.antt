@@ -1,21 +1,87 @@
--- STUB: what stands against a text, until the text is read here.
-use Rattle.std.specs.Prelude.{ℕ, ◌≤◌, List, length}
+-- What stands against a file's text. What comes first of these is named: a byte that waits for a later stage, where
+-- reading stops, a bracket that is not paired, what the sheet is refused for.
+use Rattle.std.specs.Prelude.{ℕ, ◌≡◌, ◌⊎◌, ◌≤◌, ◌<◌, List, [], length, map, IsTrue, Bool, ◌&&◌, not, Option, Some, None, MatchOption, nat_lt, nat_eq}
+use Rattle.std.specs.List.{position}
+use Rattle.css_tokens.specs.declared.component.Component.{Component}
+use Rattle.css_tokens.specs.Pairing.{IsPaired, IsMismatch, IsUnclosed, IsTooDeep}
+use Rattle.css_tokens.specs.Piece.{Piece, word_of}
+use Rattle.css_tokens.specs.Tokens.{Reads, IsPlaced, StopsAt}
+use Rattle.css_tokens.specs.Trees.{pieces_all, all_formed}
+use Rattle.css_rules.specs.declared.refusal.Refusal.TheVariants as refusal
+use Rattle.css_rules.specs.Refusals.{first_refusal}
+use Rattle.css_rules.specs.Sheets.{sheet_refusals}
 use Rattle.cascade_spec.specs.declared.finding.Code.{Code}
-use Rattle.csslower.specs.declared.one_file.TextFault.{TextFault}
-use Rattle.csslower.specs.declared.one_file.TextFault.TheVariants.{Finding, Memory}
+use Rattle.cascade_spec.specs.declared.finding.Code.TheVariants.{Syntax, Depth, Missing, Unbuilt}
+use Rattle.csslower.specs.declared.text_fault.TextFault.{TextFault}
+use Rattle.csslower.specs.declared.text_fault.TextFault.TheVariants.{Finding, Memory}
 
--- STUB: the text is refused first at this place, for this cause
-pub HasFinding : List ℕ → Code → ℕ → Type 0
-HasFinding bytes code offset = Unit {0}
+-- bytes that wait for a later stage: those from 80 hexadecimal on, and `\`
+abbrev pub is_unbuilt : ℕ → Bool
+is_unbuilt b = not (nat_lt b 128 && not (nat_eq b 92))
 
--- STUB: nothing stands against the text
-pub IsAccepted : List ℕ → Type 0
-IsAccepted bytes = Unit {0}
+-- the tokens of the text, each in its place (CSS Syntax 3, section 4)
+pub record HasTokens (bytes : List ℕ) (tokens : List Piece) : Type 0 where
+  pub read : Reads bytes (map word_of tokens)
+  pub placed : IsPlaced 0 tokens
 
--- a refusal names what stands against the text, in it or at its end; want of memory says nothing of it
+-- the component values of the text, their brackets paired (CSS Syntax 3, section 5)
+pub record HasComponents (bytes : List ℕ) (components : List Component) : Type 0 where
+  pub tokens : HasTokens bytes (pieces_all components)
+  pub formed : IsTrue (all_formed components)
+  pub paired : IsPaired (pieces_all components)
+
+-- no token begins there, or no text may hold the character
+abbrev pub HasStop : List ℕ → Code → ℕ → Type 0
+HasStop bytes code offset = (code ≡ Syntax) × StopsAt bytes offset
+
+-- a bracket does not match, or is open at the end, or is nested too deep
+abbrev pub IsBracketFault : List Piece → ℕ → Code → ℕ → Type 0
+IsBracketFault tokens end Syntax offset = IsMismatch tokens offset ⊎ IsUnclosed tokens end offset
+IsBracketFault tokens end Depth offset = IsTooDeep tokens offset
+IsBracketFault tokens end Missing offset = ⊥
+IsBracketFault tokens end Unbuilt offset = ⊥
+
+abbrev pub HasBracketFault : List ℕ → Code → ℕ → Type 0
+HasBracketFault bytes code offset = (tokens : List Piece) × HasTokens bytes tokens × IsBracketFault tokens (length bytes) code offset
+
+-- the sheet is refused there
+abbrev pub IsRefused : List Component → Code → ℕ → Type 0
+IsRefused components Syntax offset = first_refusal (sheet_refusals components) ≡ Some (refusal.Syntax offset)
+IsRefused components Unbuilt offset = first_refusal (sheet_refusals components) ≡ Some (refusal.Unbuilt offset)
+IsRefused components Depth offset = ⊥
+IsRefused components Missing offset = ⊥
+
+abbrev pub HasRefusal : List ℕ → Code → ℕ → Type 0
+HasRefusal bytes code offset = (components : List Component) × HasComponents bytes components × IsRefused components code offset
+
+-- what stands against a text without such bytes
+abbrev pub HasReadingFinding : List ℕ → Code → ℕ → Type 0
+HasReadingFinding bytes code offset = HasStop bytes code offset ⊎ (HasBracketFault bytes code offset ⊎ HasRefusal bytes code offset)
+
+-- the text is refused first at this place, for this cause
+unfoldable pub HasFinding : List ℕ → Code → ℕ → Type 0
+HasFinding bytes code offset =
+    MatchOption (position is_unbuilt bytes)
+    (HasReadingFinding bytes code offset)
+    (λ place. (code ≡ Unbuilt) × (offset ≡ place))
+
+-- the text reads as a sheet that is not refused
+abbrev pub IsReadable : List ℕ → Type 0
+IsReadable bytes = (components : List Component) × HasComponents bytes components × (sheet_refusals components ≡ [])
+
+-- nothing stands against the text
+unfoldable pub IsAccepted : List ℕ → Type 0
+IsAccepted bytes = (position is_unbuilt bytes ≡ None) × IsReadable bytes
+
+-- a refusal names what stands against the text; want of memory says nothing of it
 abbrev pub IsTextFault : List ℕ → TextFault → Type 0
 IsTextFault bytes (Finding code offset) = HasFinding bytes code offset
 IsTextFault bytes Memory = Unit {0}
+
+-- the same of a text without bytes that wait for a later stage
+abbrev pub IsReadingFault : List ℕ → TextFault → Type 0
+IsReadingFault bytes (Finding code offset) = HasReadingFinding bytes code offset
+IsReadingFault bytes Memory = Unit {0}
 
 -- the place of a refusal is in the text or at its end
 abbrev pub IsWithin : List ℕ → TextFault → Type 0

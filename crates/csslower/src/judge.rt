@@ -8,11 +8,12 @@ ghost use Rattle.csslower.specs.Lines.{memory_line};
 ghost use Rattle.csslower.specs.Saying.{Said, Says};
 ghost use Rattle.csslower.specs.Writing.{standard, SameOutputs};
 
-use crate::one_file::{TextFault, rewrite};
+use crate::one_file::rewrite;
 use crate::put_text::put_text;
 use crate::refuse::refuse;
 use crate::say::say;
 use crate::status::Status;
+use crate::text_fault::TextFault;
 use crate::words::is_scoped;
 use cascade_spec::{Code, Finding, Place};
 use css_outside::Outbox;

@@ -9,12 +9,14 @@ mod load;
 mod one_file;
 mod print;
 mod put_text;
+mod read_text;
 mod refuse;
 mod run;
 mod say;
 mod status;
 #[cfg(test)]
 mod tests;
+mod text_fault;
 mod words;
 
 use crate::gate::NoGate;

@@ -1,0 +1,85 @@
+ghost use Rattle.std.specs.Prelude.{◌≡◌, ◌≤◌, [], length, IsTrue, IfOk, IfErr};
+ghost use Rattle.css_tokens.specs.Tokens.{is_plain};
+ghost use Rattle.css_rules.specs.Sheets.{sheet_of, sheet_refusals};
+ghost use Rattle.csslower.specs.Findings.{HasTokens, HasComponents, IsReadingFault, IsWithin};
+
+use crate::text_fault::TextFault;
+use cascade_spec::Code;
+use css_rules::{RuleFault, Sheet, read_sheet};
+use css_tokens::{Component, ComponentFault, List, Token, TokenFault, components, tokens};
+use std::alloc::Global;
+
+/// The tokens of a file's text.
+fn text_tokens<'a>(alloc: Global, text: &'a [u8]) -> Result<List<Token<'a>>, TextFault>
+    requires short { length text.now ≤ 4194304 }
+    requires plain { IsTrue (is_plain text.now) }
+    ensures read { IfOk result (λ ts. HasTokens text.now ts) }
+    ensures refused { IfErr result (λ fault. IsReadingFault text.now fault) }
+    ensures place { IfErr result (λ fault. IsWithin text.now fault) }
+{
+    css_tokens::one_reading();
+    match tokens(alloc, text) {
+        Ok(tokens) => Ok(tokens),
+        Err(TokenFault::Syntax(offset)) => Err(TextFault::Finding {
+            code: Code::Syntax,
+            offset,
+        }),
+        Err(TokenFault::Memory) => Err(TextFault::Memory),
+    }
+}
+
+/// The component values of a file's text.
+pub(crate) fn text_components<'a>(
+    alloc: Global,
+    text: &'a [u8],
+) -> Result<List<Component<'a>>, TextFault>
+    requires short { length text.now ≤ 4194304 }
+    requires plain { IsTrue (is_plain text.now) }
+    ensures read { IfOk result (λ cs. HasComponents text.now cs) }
+    ensures refused { IfErr result (λ fault. IsReadingFault text.now fault) }
+    ensures place { IfErr result (λ fault. IsWithin text.now fault) }
+{
+    let tokens = text_tokens(alloc, text)?;
+    css_tokens::places_rise_in_a_text();
+    match components(alloc, tokens.as_slice(), text.len() as u32) {
+        Ok(components) => Ok(components),
+        Err(ComponentFault::Syntax(offset)) => Err(TextFault::Finding {
+            code: Code::Syntax,
+            offset,
+        }),
+        Err(ComponentFault::Depth(offset)) => Err(TextFault::Finding {
+            code: Code::Depth,
+            offset,
+        }),
+        Err(ComponentFault::Memory) => Err(TextFault::Memory),
+    }
+}
+
+/// The sheet of a file's text, whose components are given.
+pub(crate) fn text_sheet<'a>(
+    alloc: Global,
+    text: &[u8],
+    components: &[Component<'a>],
+) -> Result<Sheet<'a>, TextFault>
+    requires short { length text.now ≤ 4194304 }
+    requires read { HasComponents text.now components.now }
+    ensures found { IfOk result (λ sheet. sheet ≡ sheet_of components.now) }
+    ensures faultless { IfOk result (λ _. sheet_refusals components.now ≡ []) }
+    ensures refused { IfErr result (λ fault. IsReadingFault text.now fault) }
+    ensures place { IfErr result (λ fault. IsWithin text.now fault) }
+{
+    css_tokens::places_rise_in_a_text();
+    css_rules::refusals_stand_within();
+    match read_sheet(alloc, components, text.len() as u32) {
+        Ok(sheet) => Ok(sheet),
+        Err(RuleFault::Syntax(offset)) => Err(TextFault::Finding {
+            code: Code::Syntax,
+            offset,
+        }),
+        Err(RuleFault::Unbuilt(offset)) => Err(TextFault::Finding {
+            code: Code::Unbuilt,
+            offset,
+        }),
+        Err(RuleFault::Memory) => Err(TextFault::Memory),
+    }
+}
