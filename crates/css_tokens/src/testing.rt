@@ -37,7 +37,10 @@ pub(crate) fn components_of(
     text: &str,
 ) -> Result<List<Component<'_>>, ComponentFault> {
     let list = tokens_of(alloc, text);
-    let end = text.len() as u32;
+    let end = match u32::try_from(text.len()) {
+        Ok(end) => end,
+        Err(_) => return Err(ComponentFault::Memory),
+    };
     if rises(list.as_slice(), end) {
         components(alloc, list.as_slice(), end)
     } else {

@@ -41,12 +41,18 @@ fn read(alloc: Global, text: &str) -> Result<Sheet<'_>, RuleFault> {
 
 /// The declarations of the first rule.
 fn first_run<'s, 'a>(sheet: &'s Sheet<'a>) -> &'s [Declaration<'a>] {
-    match sheet.items.get(0) {
-        Some(Item::Style(style)) => match style.items.get(0) {
-            Some(Item::Plain(run)) => run.as_slice(),
-            _ => &[],
-        },
-        _ => &[],
+    let [first, ..] = sheet.items.as_slice() else {
+        return &[];
+    };
+    let Item::Style(style) = first else {
+        return &[];
+    };
+    let [first, ..] = style.items.as_slice() else {
+        return &[];
+    };
+    match first {
+        Item::Plain(run) => run.as_slice(),
+        Item::Style(_) => &[],
     }
 }
 
