@@ -173,9 +173,11 @@ no_braces laws d printable plain_property =
         negated : (b : Bool) → not b ≡ true → b ≡ false
         negated true e = sym e
         negated false e = refl
+
     printed : (va : List Component) → value_again d.value ≡ va → list_any is_braces d.value ≡ false → list_any is_braces (value_or_space va) ≡ false
     printed [] e none = ap (λ b. b || false) (braces-Single (piece_of (word kinds.White (codes " "))))
     printed (c ∷ cs) e none = ap (list_any is_braces) (sym e) ∙ any-value is_braces braces_layer laws d.value printable.formed ∙ none
+
     mark : (b : Bool) → list_any is_braces (importance_again b) ≡ false
     mark true =
         ap (λ b. b || (is_braces important || false)) (braces-Single (piece_of (word kinds.Delim (codes "!"))))
@@ -198,6 +200,7 @@ plain_item laws d printable plain =
         ∙ ap (λ (p : Piece). is_custom p.text && true) (head-Single (piece_of (word kinds.Ident (name_text d.name))))
         ∙ ap (λ n. is_custom n && true) plain
         ∙ and-true (is_custom d.name)
+
     by_custom : (b : Bool) → is_custom d.name ≡ b → (not (is_custom d.name) && list_any is_braces (name_of d.name ∷ colon ∷ tail_of d)) ≡ false
     by_custom true e = ap (λ b. not b && list_any is_braces (name_of d.name ∷ colon ∷ tail_of d)) e
     by_custom false e = ap (λ b. not (is_custom d.name) && b) (no_braces laws d printable e) ∙ and-false (not (is_custom d.name))
@@ -224,6 +227,7 @@ undivided-again laws d printable =
     printed : (va : List Component) → value_again d.value ≡ va → list_any is_semicolon (value_or_space va) ≡ false
     printed [] e = ap (λ b. b || false) (semicolon-Single (piece_of (word kinds.White (codes " "))))
     printed (c ∷ cs) e = ap (list_any is_semicolon) (sym e) ∙ any-value is_semicolon semicolon_layer laws d.value printable.formed ∙ printable.undivided
+
     mark : (b : Bool) → list_any is_semicolon (importance_again b) ≡ false
     mark true =
         ap (λ b. b || (is_semicolon important || false)) (semicolon-Single (piece_of (word kinds.Delim (codes "!"))))

@@ -141,8 +141,8 @@ module _ (laws : ReadLaws) where
       let value = value_or_space (value_again d.value) in
       let mark = importance_again d.important in
       let tail = on-append value mark after
-          (value-reads values d.value stands.behind (text_of mark ++ after) p.formed p.begun stands.stop stands.reads (stop-follows d.important more rest) (white-follows d.important more rest))
-          (importance-reads d.important more rest) in
+      (value-reads values d.value stands.behind (text_of mark ++ after) p.formed p.begun stands.stop stands.reads (stop-follows d.important more rest) (white-follows d.important more rest))
+      (importance-reads d.important more rest) in
       let spelled_name : spells kinds.Ident (name_text d.name) ≡ true = ap (spells kinds.Ident) (laws.named d.name p.name) ∙ laws.idents d.name p.name in
       let before_colon : begins_none after_ident (text_of (colon ∷ value ++ mark) ++ after) ≡ true = ap (λ t. begins_none after_ident (t ++ after)) (text-cons (word kinds.Colon (codes ":")) (value ++ mark)) in
       on-cons (word kinds.Ident (name_text d.name)) (colon ∷ value ++ mark) after refl (laws.ident (name_text d.name) (text_of (colon ∷ value ++ mark) ++ after) spelled_name before_colon)
@@ -154,7 +154,7 @@ module _ (laws : ReadLaws) where
   declarations-read values d (e ∷ ds) p stands rest =
       let others = declarations_again (e ∷ ds) in
       let whole : text_of (semicolon ∷ others) ++ (codes "}" ++ rest) ≡ codes ";" ++ (text_of others ++ (codes "}" ++ rest)) =
-          ap (λ t. t ++ (codes "}" ++ rest)) (text-cons (word kinds.Semicolon (codes ";")) others) ∙ append_assoc (codes ";") (text_of others) (codes "}" ++ rest) in
+      ap (λ t. t ++ (codes "}" ++ rest)) (text-cons (word kinds.Semicolon (codes ";")) others) ∙ append_assoc (codes ";") (text_of others) (codes "}" ++ rest) in
       let P : List ℕ → Type 0 = λ t. ReadsOn (declaration_again d) t in
       on-append (declaration_again d) (semicolon ∷ others) (codes "}" ++ rest)
       (subst P (sym whole) (declaration-reads values d p.0 stands.0 true (text_of others ++ (codes "}" ++ rest))))
@@ -168,11 +168,11 @@ module _ (laws : ReadLaws) where
       let feed : ReadsOn (line_feed ∷ []) rest = on-cons (word kinds.White (10 ∷ [])) [] rest refl (laws.fed rest white_rest) (on-end rest) in
       let closing : ReadsTo behind (word kinds.Close (codes "}") ∷ words_all (line_feed ∷ [])) rest = (close_mark (text_of (line_feed ∷ []) ++ rest), refl, feed) in
       let all : ReadsTo (text_of inner ++ behind) (words_all inner ++ word kinds.Close (codes "}") ∷ words_all (line_feed ∷ [])) rest =
-          laws.composes (words_all inner) (word kinds.Close (codes "}") ∷ words_all (line_feed ∷ [])) behind rest (declarations-read values d ds p stands (text_of (line_feed ∷ []) ++ rest)) closing in
+      laws.composes (words_all inner) (word kinds.Close (codes "}") ∷ words_all (line_feed ∷ [])) behind rest (declarations-read values d ds p stands (text_of (line_feed ∷ []) ++ rest)) closing in
       let opened : ReadsTo (codes "{" ++ (text_of inner ++ behind)) (word kinds.Open (codes "{") ∷ (words_all inner ++ word kinds.Close (codes "}") ∷ words_all (line_feed ∷ []))) rest = (open_mark (text_of inner ++ behind), refl, all) in
       let whole : text_of (block_again (d ∷ ds) ∷ line_feed ∷ []) ++ rest ≡ codes "{" ++ (text_of inner ++ behind) =
-          ap (λ t. t ++ rest) (text-brace (d ∷ ds) (line_feed ∷ []))
-          ∙ ap (λ t. codes "{" ++ t) (append_assoc (text_of inner) (codes "}" ++ text_of (line_feed ∷ [])) rest ∙ ap (λ t. text_of inner ++ t) (append_assoc (codes "}") (text_of (line_feed ∷ [])) rest)) in
+      ap (λ t. t ++ rest) (text-brace (d ∷ ds) (line_feed ∷ []))
+      ∙ ap (λ t. codes "{" ++ t) (append_assoc (text_of inner) (codes "}" ++ text_of (line_feed ∷ [])) rest ∙ ap (λ t. text_of inner ++ t) (append_assoc (codes "}") (text_of (line_feed ∷ [])) rest)) in
       let P : List ℕ → Type 0 = λ t. ReadsTo t (words_all (block_again (d ∷ ds) ∷ line_feed ∷ [])) rest in
       let Q : List Word → Type 0 = λ ws. ReadsTo (codes "{" ++ (text_of inner ++ behind)) ws rest in
       subst P (sym whole) (subst Q (sym (words-brace (d ∷ ds) (line_feed ∷ []))) opened)

@@ -42,11 +42,11 @@ words-unsought sought cs none = nothing (pieces_all cs) none
     nothing : (ps : List Piece) → unbuilt_at (find (is_sought sought) ps) ≡ [] → list_any (word_sought sought) (map word_of ps) ≡ false
     nothing [] e = refl
     nothing (p ∷ ps) e = elim (cases_Bool (is_sought sought p)) [
-        inl found ↦ absurd (cc (sym (ap (λ b. unbuilt_at (cond b (Some p) (find (is_sought sought) ps))) found) ∙ e))
+      | inl found ↦ absurd (cc (sym (ap (λ b. unbuilt_at (cond b (Some p) (find (is_sought sought) ps))) found) ∙ e))
       | inr other ↦
           ap (λ b. b || list_any (word_sought sought) (map word_of ps)) (sought-place sought p ∙ other)
           ∙ nothing ps (sym (ap (λ b. unbuilt_at (cond b (Some p) (find (is_sought sought) ps))) other) ∙ e)
-      ]
+    ]
 
 short-sought : (sought : Sought) (k : Kind) (text : List ℕ) → word_sought sought (record { kind = k; text = short_text k text }) ≡ word_sought sought (record { kind = k; text = text })
 short-sought ColonOrBracket kinds.Open text = refl

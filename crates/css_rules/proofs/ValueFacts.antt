@@ -55,11 +55,11 @@ module _ (test : Component → Bool) (layer : IsLayerTest test) where
   any-filter (x ∷ xs) formed =
       let rest = any-filter xs (and_right (is_formed x) (all_formed xs) formed) in
       elim (cases_Bool (is_solid x)) [
-        inl solid ↦ ap (λ b. list_any test (cond b (x ∷ filter is_solid xs) (filter is_solid xs))) solid ∙ ap (λ b. test x || b) rest
-      | inr gap ↦
-          ap (λ b. list_any test (cond b (x ∷ filter is_solid xs) (filter is_solid xs))) gap
-          ∙ rest
-          ∙ ap (λ b. b || list_any test xs) (sym (layer.of_solid x (and_left (is_formed x) (all_formed xs) formed) gap))
+        | inl solid ↦ ap (λ b. list_any test (cond b (x ∷ filter is_solid xs) (filter is_solid xs))) solid ∙ ap (λ b. test x || b) rest
+        | inr gap ↦
+            ap (λ b. list_any test (cond b (x ∷ filter is_solid xs) (filter is_solid xs))) gap
+            ∙ rest
+            ∙ ap (λ b. b || list_any test xs) (sym (layer.of_solid x (and_left (is_formed x) (all_formed xs) formed) gap))
       ]
 
   any-again : (xs : List Component) → list_any test (map again xs) ≡ list_any test xs
@@ -96,24 +96,24 @@ delim_short _ text = refl
 pub semicolon_layer : IsLayerTest is_semicolon
 semicolon_layer = record {
   of_solid = λ c formed gap. elim (shape_of c) [
-    inl s ↦ ap is_semicolon s.1 ∙ semicolon-Single s.0 ∙ gap_no_semicolon s.0.kind (not_false (is_gap_word s.0.kind) (sym (solid-Single s.0) ∙ sym (ap is_solid s.1) ∙ gap))
-  | inr b ↦ ap is_semicolon b.1 ∙ semicolon-Block b.0
+    | inl s ↦ ap is_semicolon s.1 ∙ semicolon-Single s.0 ∙ gap_no_semicolon s.0.kind (not_false (is_gap_word s.0.kind) (sym (solid-Single s.0) ∙ sym (ap is_solid s.1) ∙ gap))
+    | inr b ↦ ap is_semicolon b.1 ∙ semicolon-Block b.0
   ];
   same = λ c. elim (shape_of c) [
-    inl s ↦ ap (λ d. is_semicolon (again d)) s.1 ∙ ap is_semicolon (again-Single s.0) ∙ semicolon-Single (short_piece s.0) ∙ sym (semicolon-Single s.0) ∙ sym (ap is_semicolon s.1)
-  | inr b ↦ ap (λ d. is_semicolon (again d)) b.1 ∙ ap is_semicolon (again-Block b.0) ∙ semicolon-Block (record { opening = b.0.opening; items = all_again b.0.items; close = b.0.close }) ∙ sym (semicolon-Block b.0) ∙ sym (ap is_semicolon b.1)
+    | inl s ↦ ap (λ d. is_semicolon (again d)) s.1 ∙ ap is_semicolon (again-Single s.0) ∙ semicolon-Single (short_piece s.0) ∙ sym (semicolon-Single s.0) ∙ sym (ap is_semicolon s.1)
+    | inr b ↦ ap (λ d. is_semicolon (again d)) b.1 ∙ ap is_semicolon (again-Block b.0) ∙ semicolon-Block (record { opening = b.0.opening; items = all_again b.0.items; close = b.0.close }) ∙ sym (semicolon-Block b.0) ∙ sym (ap is_semicolon b.1)
   ];
 }
 
 pub bang_layer : IsLayerTest is_bang
 bang_layer = record {
   of_solid = λ c formed gap. elim (shape_of c) [
-    inl s ↦ ap is_bang s.1 ∙ bang-Single s.0 ∙ gap_no_delim s.0.kind (is_text s.0.text (codes "!")) (not_false (is_gap_word s.0.kind) (sym (solid-Single s.0) ∙ sym (ap is_solid s.1) ∙ gap))
-  | inr b ↦ ap is_bang b.1 ∙ bang-Block b.0
+    | inl s ↦ ap is_bang s.1 ∙ bang-Single s.0 ∙ gap_no_delim s.0.kind (is_text s.0.text (codes "!")) (not_false (is_gap_word s.0.kind) (sym (solid-Single s.0) ∙ sym (ap is_solid s.1) ∙ gap))
+    | inr b ↦ ap is_bang b.1 ∙ bang-Block b.0
   ];
   same = λ c. elim (shape_of c) [
-    inl s ↦ ap (λ d. is_bang (again d)) s.1 ∙ ap is_bang (again-Single s.0) ∙ bang-Single (short_piece s.0) ∙ delim_short s.0.kind s.0.text ∙ sym (bang-Single s.0) ∙ sym (ap is_bang s.1)
-  | inr b ↦ ap (λ d. is_bang (again d)) b.1 ∙ ap is_bang (again-Block b.0) ∙ bang-Block (record { opening = b.0.opening; items = all_again b.0.items; close = b.0.close }) ∙ sym (bang-Block b.0) ∙ sym (ap is_bang b.1)
+    | inl s ↦ ap (λ d. is_bang (again d)) s.1 ∙ ap is_bang (again-Single s.0) ∙ bang-Single (short_piece s.0) ∙ delim_short s.0.kind s.0.text ∙ sym (bang-Single s.0) ∙ sym (ap is_bang s.1)
+    | inr b ↦ ap (λ d. is_bang (again d)) b.1 ∙ ap is_bang (again-Block b.0) ∙ bang-Block (record { opening = b.0.opening; items = all_again b.0.items; close = b.0.close }) ∙ sym (bang-Block b.0) ∙ sym (ap is_bang b.1)
   ];
 }
 
@@ -125,24 +125,24 @@ opens_no_gap _ e = refl
 pub braces_layer : IsLayerTest is_braces
 braces_layer = record {
   of_solid = λ c formed gap. elim (shape_of c) [
-    inl s ↦ ap is_braces s.1 ∙ braces-Single s.0
-  | inr b ↦
-      let opened = and_left (opens b.0.opening.kind) (all_formed b.0.items) (sym (is_formed-Block b.0) ∙ sym (ap is_formed b.1) ∙ formed) in
-      let solid = ap is_solid b.1 ∙ ap (λ k. not (is_gap_word k)) (head_kind-Block b.0) ∙ ap not (opens_no_gap b.0.opening.kind opened) in
-      absurd (cc (solid, gap))
+    | inl s ↦ ap is_braces s.1 ∙ braces-Single s.0
+    | inr b ↦
+        let opened = and_left (opens b.0.opening.kind) (all_formed b.0.items) (sym (is_formed-Block b.0) ∙ sym (ap is_formed b.1) ∙ formed) in
+        let solid = ap is_solid b.1 ∙ ap (λ k. not (is_gap_word k)) (head_kind-Block b.0) ∙ ap not (opens_no_gap b.0.opening.kind opened) in
+        absurd (cc (solid, gap))
   ];
   same = λ c. elim (shape_of c) [
-    inl s ↦ ap (λ d. is_braces (again d)) s.1 ∙ ap is_braces (again-Single s.0) ∙ braces-Single (short_piece s.0) ∙ sym (braces-Single s.0) ∙ sym (ap is_braces s.1)
-  | inr b ↦ ap (λ d. is_braces (again d)) b.1 ∙ ap is_braces (again-Block b.0) ∙ braces-Block (record { opening = b.0.opening; items = all_again b.0.items; close = b.0.close }) ∙ sym (braces-Block b.0) ∙ sym (ap is_braces b.1)
+    | inl s ↦ ap (λ d. is_braces (again d)) s.1 ∙ ap is_braces (again-Single s.0) ∙ braces-Single (short_piece s.0) ∙ sym (braces-Single s.0) ∙ sym (ap is_braces s.1)
+    | inr b ↦ ap (λ d. is_braces (again d)) b.1 ∙ ap is_braces (again-Block b.0) ∙ braces-Block (record { opening = b.0.opening; items = all_again b.0.items; close = b.0.close }) ∙ sym (braces-Block b.0) ∙ sym (ap is_braces b.1)
   ];
 }
 
 -- what is solid is no gap
 solid_no_gap : (c : Component) → is_solid c ≡ true → is_gap c ≡ false
 solid_no_gap c solid = elim (shape_of c) [
-    inl s ↦ ap is_gap s.1 ∙ gap-Single s.0 ∙ kinds_agree s.0.kind (sym (solid-Single s.0) ∙ sym (ap is_solid s.1) ∙ solid)
+  | inl s ↦ ap is_gap s.1 ∙ gap-Single s.0 ∙ kinds_agree s.0.kind (sym (solid-Single s.0) ∙ sym (ap is_solid s.1) ∙ solid)
   | inr b ↦ ap is_gap b.1 ∙ gap-Block b.0
-  ]
+]
   where
     kinds_agree : (k : Kind) → not (is_gap_word k) ≡ true → is_gap_kind k ≡ false
     kinds_agree kinds.White e = sym e
@@ -176,11 +176,11 @@ trimmed_end-value laws v = at (value_again v) refl
 -- a well formed component that is no gap is solid
 no_gap_solid : (c : Component) → is_formed c ≡ true → is_gap c ≡ false → is_solid c ≡ true
 no_gap_solid c formed other = elim (shape_of c) [
-    inl s ↦ ap is_solid s.1 ∙ solid-Single s.0 ∙ kinds_agree s.0.kind (sym (gap-Single s.0) ∙ sym (ap is_gap s.1) ∙ other)
+  | inl s ↦ ap is_solid s.1 ∙ solid-Single s.0 ∙ kinds_agree s.0.kind (sym (gap-Single s.0) ∙ sym (ap is_gap s.1) ∙ other)
   | inr b ↦
       let opened = and_left (opens b.0.opening.kind) (all_formed b.0.items) (sym (is_formed-Block b.0) ∙ sym (ap is_formed b.1) ∙ formed) in
       ap is_solid b.1 ∙ ap (λ k. not (is_gap_word k)) (head_kind-Block b.0) ∙ ap not (opens_no_gap b.0.opening.kind opened)
-  ]
+]
   where
     kinds_agree : (k : Kind) → is_gap_kind k ≡ false → not (is_gap_word k) ≡ true
     kinds_agree kinds.White e = sym e

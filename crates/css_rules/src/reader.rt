@@ -325,3 +325,6 @@ fn read_rules<'a>(
         refusal,
     })
 }
+
+#[cfg(test)]
+mod tests;

@@ -13,6 +13,8 @@ mod pairing;
 mod plain;
 mod print;
 mod reader;
+#[cfg(test)]
+mod testing;
 mod text;
 mod token;
 mod value;

@@ -1,26 +1,31 @@
-ghost use Rattle.std.specs.Prelude.{IsTrue};
-ghost use Rattle.css_tokens.specs.Names.{has_name};
-
 use super::*;
+use crate::testing::tokens_of;
 
-fn name(alloc: Global, kind: Kind, text: &str) -> Result<Text<'_>, OutOfMemory>
-    requires { IsTrue (has_name kind) }
-{
-    name_of(alloc, &Token { kind, text, at: 0 })
+/// The name of the first token of a text, or nothing where it holds none.
+fn name(alloc: Global, text: &str) -> Result<Text<'_>, OutOfMemory> {
+    match tokens_of(alloc, text).get(0) {
+        Some(token) => match token.kind {
+            Kind::Ident | Kind::Function | Kind::Url | Kind::At | Kind::Hash | Kind::String =>
+                name_of(alloc, token),
+            _ => Ok(Text::lent("")),
+        },
+        None => Ok(Text::lent("")),
+    }
 }
 
 #[test]
 fn names_tokens(rt: HostRuntime) -> Result<(), OutOfMemory> {
-    let alloc = rt.alloc();
-    assert_eq!(rt; name(alloc, Kind::Ident, "a-b")?.as_str(), "a-b");
-    assert_eq!(rt; name(alloc, Kind::Function, "calc(")?.as_str(), "calc");
-    assert_eq!(rt; name(alloc, Kind::At, "@media")?.as_str(), "media");
-    assert_eq!(rt; name(alloc, Kind::Hash, "#fff")?.as_str(), "fff");
-    assert_eq!(rt; name(alloc, Kind::String, "\"it's\"")?.as_str(), "it's");
-    assert_eq!(rt; name(alloc, Kind::String, "'a'")?.as_str(), "a");
-    assert_eq!(rt;
-        name(alloc, Kind::Url, "url(  a/b.png )")?.as_str(),
-        "a/b.png"
-    );
+    let cases = [
+        ("a-b", "a-b"),
+        ("calc(", "calc"),
+        ("@media", "media"),
+        ("#fff", "fff"),
+        ("\"it's\"", "it's"),
+        ("'a'", "a"),
+        ("url(  a/b.png )", "a/b.png"),
+    ];
+    for (text, want) in cases {
+        assert_eq!(rt; name(rt.alloc(), text)?.as_str(), want);
+    }
     Ok(())
 }

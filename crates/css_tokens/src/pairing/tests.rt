@@ -1,40 +1,10 @@
-use super::*;
+use crate::testing::components_of;
+use crate::{Component, ComponentFault};
+use std::test::Fail;
 
-fn token<'a>(kind: Kind, text: &'a str, at: u32) -> Token<'a> {
-    Token { kind, text, at }
-}
-
-/// `a(b)[]`
 #[test]
-fn pairs_brackets(rt: HostRuntime) -> Result<(), ComponentFault> {
-    let tokens = [
-        Token {
-            kind: Kind::Function,
-            text: "a(",
-            at: 0,
-        },
-        Token {
-            kind: Kind::Ident,
-            text: "b",
-            at: 2,
-        },
-        Token {
-            kind: Kind::Close,
-            text: ")",
-            at: 3,
-        },
-        Token {
-            kind: Kind::Open,
-            text: "[",
-            at: 4,
-        },
-        Token {
-            kind: Kind::Close,
-            text: "]",
-            at: 5,
-        },
-    ];
-    let found = components(rt.alloc(), &tokens, 6)?;
+fn pairs_brackets(rt: HostRuntime) -> Result<(), Fail> {
+    let found = components_of(rt.alloc(), "a(b)[]")?;
     assert_eq!(rt; found.len(), 2);
     match found.get(0) {
         Some(Component::Block(block)) => {
@@ -49,58 +19,31 @@ fn pairs_brackets(rt: HostRuntime) -> Result<(), ComponentFault> {
 
 #[test]
 fn names_the_first_fault(rt: HostRuntime) {
-    // `[(]`
-    let crossed = [
-        token(Kind::Open, "[", 0),
-        token(Kind::Open, "(", 1),
-        token(Kind::Close, "]", 2),
-    ];
-    assert!(rt;
-        matches!(
-            paired(rt.alloc(), &crossed, 3),
-            Err(ComponentFault::Syntax(2))
-        )
-    );
-    // `){`
-    let closed = [token(Kind::Close, ")", 0), token(Kind::Open, "{", 1)];
-    assert!(rt;
-        matches!(
-            paired(rt.alloc(), &closed, 2),
-            Err(ComponentFault::Syntax(0))
-        )
-    );
-    // `{ `
-    let unclosed = [token(Kind::Open, "{", 0), token(Kind::White, " ", 1)];
-    assert!(rt;
-        matches!(
-            paired(rt.alloc(), &unclosed, 2),
-            Err(ComponentFault::Syntax(2))
-        )
-    );
+    let cases = [("[(]", 2), ("){", 0), ("{ ", 2)];
+    for (text, want) in cases {
+        let at = match components_of(rt.alloc(), text) {
+            Err(ComponentFault::Syntax(at)) => Some(at),
+            _ => None,
+        };
+        assert_eq!(rt; at, Some(want), "at {text}");
+    }
 }
 
-/// As many `(` and as many `)` as that.
-fn nested(alloc: Global, depth: u32) -> Result<Vec<Token<'static>>, AllocFailed<Token<'static>>> {
-    let mut tokens = Vec::new(alloc);
-    for at in 0..depth {
-        tokens.push(token(Kind::Open, "(", at))?;
-    }
-    for at in 0..depth {
-        tokens.push(token(Kind::Close, ")", depth.wrapping_add(at)))?;
-    }
-    Ok(tokens)
-}
+/// 64 of `(`, and as many of `)`.
+const DEEP: &str = "((((((((((((((((((((((((((((((((((((((((((((((((((((((((((((((((\
+     ))))))))))))))))))))))))))))))))))))))))))))))))))))))))))))))))";
+
+/// The same with one more of each.
+const DEEPER: &str = "(((((((((((((((((((((((((((((((((((((((((((((((((((((((((((((((((\
+     )))))))))))))))))))))))))))))))))))))))))))))))))))))))))))))))))";
 
 #[test]
-fn nests_to_depth_64(rt: HostRuntime) -> Result<(), ComponentFault> {
-    let deep = nested(rt.alloc(), 64)?;
-    assert!(rt; paired(rt.alloc(), &deep, 128).is_ok());
-    let deeper = nested(rt.alloc(), 65)?;
+fn nests_to_depth_64(rt: HostRuntime) {
+    assert!(rt; components_of(rt.alloc(), DEEP).is_ok());
     assert!(rt;
         matches!(
-            paired(rt.alloc(), &deeper, 130),
+            components_of(rt.alloc(), DEEPER),
             Err(ComponentFault::Depth(64))
         )
     );
-    Ok(())
 }
