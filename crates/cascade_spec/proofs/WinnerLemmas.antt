@@ -1,22 +1,21 @@
 -- One entry is above all others, and it is the one that is computed.
-use Rattle.std.proofs.Common.{◌≡◌, ℕ, zero, suc, ◌<◌, List, [], ◌∷◌, Bool, true, false, Option, Some, None, refl, sym, ◌∙◌, ap, subst, arith, inl, inr, ◌⊎◌, slice_get, if◌then◌else◌}
-use Rattle.std.specs.Ordering.{is_gt, ordering_reverse, nat_cmp, on, then_cmp, flip_args}
+use Rattle.std.proofs.Common.{◌≡◌, ℕ, zero, suc, List, [], ◌∷◌, Bool, true, false, Option, Some, None, refl, sym, ◌∙◌, ap, subst, arith, inl, inr, ◌⊎◌, slice_get, if◌then◌else◌}
+use Rattle.std.specs.Ordering.{is_gt, ordering_reverse}
 use Rattle.std.specs.declared.cmp.Ordering.{Ordering}
 use Rattle.std.specs.declared.cmp.Ordering.TheVariants.{Less, Equal, Greater}
 use Rattle.std.specs.Cmp.{IsTotalOrder}
 use Rattle.std.proofs.lemmas.Cmp.{on_total, then_total, back_total, nat_list_cmp_total}
-use Rattle.cascade_spec.specs.Layers.{LayerPath, layer_cmp, steps_of}
-use Rattle.cascade_spec.specs.Specificities.{specificity_cmp}
+use Rattle.cascade_spec.specs.Layers.{LayerPath, steps_of}
 use Rattle.cascade_spec.specs.Cascade.{Shown, shown_cmp, IsAbove, IsWinner, above_of, winning}
 
 -- the order of what entries show is total
 pub shown-total : (important : Bool) (mentions : List LayerPath) → IsTotalOrder (shown_cmp important mentions)
 shown-total true mentions =
     then_total (back_total (on_total (λ (s : Shown). steps_of mentions [] s.layer) nat_list_cmp_total))
-        (on_total (λ (s : Shown). s.specific.a ∷ s.specific.b ∷ s.specific.c ∷ []) nat_list_cmp_total)
+    (on_total (λ (s : Shown). s.specific.a ∷ s.specific.b ∷ s.specific.c ∷ []) nat_list_cmp_total)
 shown-total false mentions =
     then_total (on_total (λ (s : Shown). steps_of mentions [] s.layer) nat_list_cmp_total)
-        (on_total (λ (s : Shown). s.specific.a ∷ s.specific.b ∷ s.specific.c ∷ []) nat_list_cmp_total)
+    (on_total (λ (s : Shown). s.specific.a ∷ s.specific.b ∷ s.specific.c ∷ []) nat_list_cmp_total)
 
 module _ (important : Bool) (mentions : List LayerPath) where
   abbrev cmp : Shown → Shown → Ordering
@@ -65,6 +64,7 @@ module _ (important : Bool) (mentions : List LayerPath) where
       over : (j : ℕ) (z : Shown) → slice_get xs j ≡ Some z → (j ≡ i) ⊎ Above i y j z → cmp x z ≡ Greater
       over j z e (inl p) = let same : z ≡ y = cc (sym e ∙ ap (slice_get xs) p ∙ w.stands) in ap (cmp x) same ∙ g
       over j z e (inr p) = greater-on i j x y z g p
+
       at : (j : ℕ) (z : Shown) → slice_get (x ∷ xs) j ≡ Some z → (j ≡ 0) ⊎ Above 0 x j z
       at zero z e = inl refl
       at (suc j) z e = inr (inl (over j z e (w.above j z e)))
@@ -77,9 +77,11 @@ module _ (important : Bool) (mentions : List LayerPath) where
       under Less e h = inl (back x y Less e)
       under Equal e h = inr (back x y Equal e, omega arith)
       under Greater e h = absurd (cc h)
+
       over : (j : ℕ) (z : Shown) → (j ≡ i) ⊎ Above i y j z → (suc j ≡ suc i) ⊎ Above (suc i) y (suc j) z
       over j z (inl p) = inl (ap suc p)
       over j z (inr p) = inr (above-later i j y z p)
+
       at : (j : ℕ) (z : Shown) → slice_get (x ∷ xs) j ≡ Some z → (j ≡ suc i) ⊎ Above (suc i) y j z
       at zero z e = let same : x ≡ z = cc e in inr (subst (Above (suc i) y 0) same (under (cmp x y) refl g))
       at (suc j) z e = over j z (w.above j z e)
@@ -109,11 +111,12 @@ module _ (important : Bool) (mentions : List LayerPath) where
     where
       is_x : above_of important mentions z (winning important mentions zs) ≡ x
       is_x = cc e
+
       at : ((y : Shown) → winning important mentions zs ≡ Some y → (i : ℕ) × Wins zs i y) → (o : Option Shown) → winning important mentions zs ≡ o → (i : ℕ) × Wins (z ∷ zs) i x
       at found None h = (0, subst (Wins (z ∷ zs) 0) (sym (ap (above_of important mentions z) h) ∙ is_x) (alone z zs h))
       at found (Some y) h =
           subst (λ v. (i : ℕ) × Wins (z ∷ zs) i v) (sym (ap (above_of important mentions z) h) ∙ is_x)
-              (joined z zs y (found y h) (is_gt (cmp z y)) refl)
+          (joined z zs y (found y h) (is_gt (cmp z y)) refl)
 
   -- what wins is computed
   pub won-winner : (all : List Shown) (i : ℕ) (x : Shown) → Wins all i x → winning important mentions all ≡ Some x

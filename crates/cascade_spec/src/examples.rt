@@ -10,7 +10,7 @@ ghost use Rattle.cascade_spec.specs.Matching.{top, selector_holds, selector_spec
 ghost use Rattle.cascade_spec.specs.Layers.{layer_cmp};
 ghost use Rattle.cascade_spec.specs.Entries.{is_active, value_set};
 ghost use Rattle.cascade_spec.specs.Cascade.{winning, winner};
-ghost use Rattle.cascade_spec.specs.Samples.{page, whole, before, every, kind, class, id, parent, also, one, two, three, led, inside, matched, specificity, layer, sublayer, mentions, seen, declaration, entry, rule, browser, asked};
+ghost use Rattle.cascade_spec.specs.Samples.{page, whole, before, every, kind, class, id, parent, also, one, two, three, led, inside, matched, specificity, layer, sublayer, mentions, seen, normal, important, entry, rule, list_rule, nested_rule, browser, asked};
 
 /// Lines and columns begin at 1, and only LF begins a line.
 pub fn lines_and_columns()
@@ -24,62 +24,59 @@ pub fn lines_and_columns()
     ensures column_of_the_end { column_of (codes "a\nbc") 4 ≡ 3 }
     ensures carriage_return { line_of (codes "a\r\nb") 3 ≡ 2 }
     ensures form_feed { line_of (12 ∷ 12 ∷ []) 2 ≡ 1 }
-{
-}
+{}
 
 /// Which elements of the page a selector at the top of a sheet matches (Selectors 4, sections 5, 6 and 14).
 pub fn selectors_match()
     ensures universal { matched top (one every) ≡ 0 ∷ 1 ∷ 2 ∷ 3 ∷ 4 ∷ [] }
-    ensures type_name { matched top (one (kind (codes "p"))) ≡ 2 ∷ 3 ∷ [] }
-    ensures class_name { matched top (one (class (codes "a"))) ≡ 1 ∷ 3 ∷ [] }
-    ensures id_name { matched top (one (id (codes "b"))) ≡ 2 ∷ [] }
-    ensures id_is_no_class { matched top (one (class (codes "b"))) ≡ [] }
-    ensures front_of_a_name { matched top (one (class (codes "re"))) ≡ [] }
-    ensures compound { matched top (one (also (kind (codes "p")) (codes "a"))) ≡ 3 ∷ [] }
-    ensures two_classes { matched top (one (also (class (codes "a")) (codes "red"))) ≡ 3 ∷ [] }
-    ensures descendant { matched top (two (kind (codes "main")) Descendant (kind (codes "em"))) ≡ 4 ∷ [] }
-    ensures not_of_itself { matched top (two (kind (codes "em")) Descendant (kind (codes "em"))) ≡ [] }
-    ensures child { matched top (two (kind (codes "main")) Child every) ≡ 1 ∷ 2 ∷ 3 ∷ [] }
-    ensures no_grandchild { matched top (two (kind (codes "main")) Child (kind (codes "em"))) ≡ [] }
-    ensures next { matched top (two (kind (codes "h1")) Next (kind (codes "p"))) ≡ 2 ∷ [] }
-    ensures next_of_a_kind { matched top (two (kind (codes "p")) Next (kind (codes "p"))) ≡ 3 ∷ [] }
-    ensures later { matched top (two (kind (codes "h1")) Later (kind (codes "p"))) ≡ 2 ∷ 3 ∷ [] }
-    ensures not_earlier { matched top (two (kind (codes "p")) Later (kind (codes "h1"))) ≡ [] }
-    ensures later_then_descendant { matched top (three (kind (codes "h1")) Later (kind (codes "p")) Descendant (kind (codes "em"))) ≡ 4 ∷ [] }
-    ensures next_then_descendant { matched top (three (kind (codes "h1")) Next (kind (codes "p")) Descendant (kind (codes "em"))) ≡ [] }
+    ensures type_name { matched top (one (kind "p")) ≡ 2 ∷ 3 ∷ [] }
+    ensures class_name { matched top (one (class "a")) ≡ 1 ∷ 3 ∷ [] }
+    ensures id_name { matched top (one (id "b")) ≡ 2 ∷ [] }
+    ensures id_is_no_class { matched top (one (class "b")) ≡ [] }
+    ensures front_of_a_name { matched top (one (class "re")) ≡ [] }
+    ensures compound { matched top (one (also (kind "p") "a")) ≡ 3 ∷ [] }
+    ensures two_classes { matched top (one (also (class "a") "red")) ≡ 3 ∷ [] }
+    ensures descendant { matched top (two (kind "main") Descendant (kind "em")) ≡ 4 ∷ [] }
+    ensures not_of_itself { matched top (two (kind "em") Descendant (kind "em")) ≡ [] }
+    ensures child { matched top (two (kind "main") Child every) ≡ 1 ∷ 2 ∷ 3 ∷ [] }
+    ensures no_grandchild { matched top (two (kind "main") Child (kind "em")) ≡ [] }
+    ensures next { matched top (two (kind "h1") Next (kind "p")) ≡ 2 ∷ [] }
+    ensures next_of_a_kind { matched top (two (kind "p") Next (kind "p")) ≡ 3 ∷ [] }
+    ensures later { matched top (two (kind "h1") Later (kind "p")) ≡ 2 ∷ 3 ∷ [] }
+    ensures not_earlier { matched top (two (kind "p") Later (kind "h1")) ≡ [] }
+    ensures later_then_descendant { matched top (three (kind "h1") Later (kind "p") Descendant (kind "em")) ≡ 4 ∷ [] }
+    ensures next_then_descendant { matched top (three (kind "h1") Next (kind "p") Descendant (kind "em")) ≡ [] }
     ensures no_element { selector_holds page top (one every) (whole 5) ≡ false }
     ensures no_pseudo_element { selector_holds page top (one every) (before 3) ≡ false }
     ensures no_parent_rule { matched top (one parent) ≡ [] }
-{
-}
+{}
 
 /// Which elements a selector matches inside a rule `#b, .a` (CSS Nesting 1, section 3).
 pub fn nested_selectors_match()
     ensures parent_alone { matched inside (one parent) ≡ 1 ∷ 2 ∷ 3 ∷ [] }
-    ensures compound { matched inside (one (also parent (codes "red"))) ≡ 3 ∷ [] }
-    ensures descendant_is_implied { matched inside (one (kind (codes "em"))) ≡ 4 ∷ [] }
-    ensures of_itself_only_with_a_parent { matched inside (one (kind (codes "p"))) ≡ [] }
-    ensures parent_is_implied { matched inside (led Child (kind (codes "em"))) ≡ 4 ∷ [] }
+    ensures compound { matched inside (one (also parent "red")) ≡ 3 ∷ [] }
+    ensures descendant_is_implied { matched inside (one (kind "em")) ≡ 4 ∷ [] }
+    ensures not_of_the_parent_itself { matched inside (one (kind "p")) ≡ [] }
+    ensures parent_is_implied { matched inside (led Child (kind "em")) ≡ 4 ∷ [] }
     ensures next_of_the_parent { matched inside (led Next every) ≡ 2 ∷ 3 ∷ [] }
     ensures parent_twice { matched inside (two parent Next parent) ≡ 2 ∷ 3 ∷ [] }
-    ensures parent_last { matched inside (two (kind (codes "h1")) Next parent) ≡ 2 ∷ [] }
-{
-}
+    ensures parent_last { matched inside (two (kind "h1") Next parent) ≡ 2 ∷ [] }
+{}
 
 /// The specificities of selectors: examples of Selectors 4, section 17, and of selectors inside a rule `#b, .a`.
 pub fn specificities()
     ensures universal { selector_specificity top (one every) ≡ specificity 0 0 0 }
-    ensures type_name { selector_specificity top (one (kind (codes "li"))) ≡ specificity 0 0 1 }
-    ensures class_name { selector_specificity top (one (class (codes "a"))) ≡ specificity 0 1 0 }
-    ensures id_name { selector_specificity top (one (id (codes "b"))) ≡ specificity 1 0 0 }
-    ensures descendant { selector_specificity top (two (kind (codes "ul")) Descendant (kind (codes "li"))) ≡ specificity 0 0 2 }
-    ensures child { selector_specificity top (two (class (codes "a")) Child (kind (codes "p"))) ≡ specificity 0 1 1 }
-    ensures three_types { selector_specificity top (three (kind (codes "ul")) Descendant (kind (codes "ol")) Next (kind (codes "li"))) ≡ specificity 0 0 3 }
-    ensures three_types_and_a_class { selector_specificity top (three (kind (codes "ul")) Descendant (kind (codes "ol")) Descendant (also (kind (codes "li")) (codes "red"))) ≡ specificity 0 1 3 }
-    ensures two_classes { selector_specificity top (one (also (also (kind (codes "li")) (codes "red")) (codes "level"))) ≡ specificity 0 2 1 }
+    ensures type_name { selector_specificity top (one (kind "li")) ≡ specificity 0 0 1 }
+    ensures class_name { selector_specificity top (one (class "a")) ≡ specificity 0 1 0 }
+    ensures id_name { selector_specificity top (one (id "b")) ≡ specificity 1 0 0 }
+    ensures descendant { selector_specificity top (two (kind "ul") Descendant (kind "li")) ≡ specificity 0 0 2 }
+    ensures child { selector_specificity top (two (class "a") Child (kind "p")) ≡ specificity 0 1 1 }
+    ensures three_types { selector_specificity top (three (kind "ul") Descendant (kind "ol") Next (kind "li")) ≡ specificity 0 0 3 }
+    ensures three_types_and_a_class { selector_specificity top (three (kind "ul") Descendant (kind "ol") Descendant (also (kind "li") "red")) ≡ specificity 0 1 3 }
+    ensures two_classes { selector_specificity top (one (also (also (kind "li") "red") "level")) ≡ specificity 0 2 1 }
     ensures most_of_the_parent { selector_specificity inside (one parent) ≡ specificity 1 0 0 }
     ensures parent_counts_each_time { selector_specificity inside (two parent Next parent) ≡ specificity 2 0 0 }
-    ensures implied_parent { selector_specificity inside (one (kind (codes "em"))) ≡ specificity 1 0 1 }
+    ensures implied_parent { selector_specificity inside (one (kind "em")) ≡ specificity 1 0 1 }
     ensures list_by_its_matching_class { inside.specific (whole 3) ≡ specificity 0 1 0 }
     ensures list_by_its_matching_id { inside.specific (whole 2) ≡ specificity 1 0 0 }
     ensures ids_first { specificity_cmp (specificity 1 0 0) (specificity 0 9 9) ≡ Greater }
@@ -89,58 +86,55 @@ pub fn specificities()
     ensures greatest_of_several { greatest (specificity 0 0 9 ∷ specificity 0 1 0 ∷ specificity 0 0 1 ∷ []) ≡ specificity 0 1 0 }
     ensures greatest_of_none { greatest [] ≡ specificity 0 0 0 }
     ensures counted_up_to_a_cap { plus (specificity 0 65535 1) (specificity 0 5 1) ≡ specificity 0 65536 2 }
-{
-}
+{}
 
 /// The order of the layers of `@layer reset, base, base.theme` (CSS Cascading 5, section 6.4).
 pub fn layers_have_an_order()
-    ensures earlier_is_lower { layer_cmp mentions (layer (codes "reset")) (layer (codes "base")) ≡ Less }
-    ensures later_is_higher { layer_cmp mentions (layer (codes "base")) (layer (codes "reset")) ≡ Greater }
-    ensures inner_is_lower { layer_cmp mentions (sublayer (codes "base") (codes "theme")) (layer (codes "base")) ≡ Less }
-    ensures inner_of_a_later { layer_cmp mentions (sublayer (codes "base") (codes "theme")) (layer (codes "reset")) ≡ Greater }
-    ensures none_is_highest { layer_cmp mentions [] (layer (codes "base")) ≡ Greater }
-    ensures itself { layer_cmp mentions (layer (codes "base")) (layer (codes "base")) ≡ Equal }
-{
-}
+    ensures earlier_is_lower { layer_cmp mentions (layer "reset") (layer "base") ≡ Less }
+    ensures later_is_higher { layer_cmp mentions (layer "base") (layer "reset") ≡ Greater }
+    ensures inner_is_lower { layer_cmp mentions (sublayer "base" "theme") (layer "base") ≡ Less }
+    ensures inner_of_a_later { layer_cmp mentions (sublayer "base" "theme") (layer "reset") ≡ Greater }
+    ensures none_is_highest { layer_cmp mentions [] (layer "base") ≡ Greater }
+    ensures itself { layer_cmp mentions (layer "base") (layer "base") ≡ Equal }
+{}
 
 /// What declarations are active in the browser, and what they set.
 pub fn declarations_set()
-    ensures active { is_active browser (entry (declaration false (codes "color") (codes "red"))) ≡ true }
-    ensures rejected { is_active browser (entry (declaration false (codes "color") (codes "oops"))) ≡ false }
-    ensures other_name { is_active browser (entry (declaration false (codes "width") (codes "oops"))) ≡ true }
-    ensures own_longhand { value_set browser (entry (declaration false (codes "color") (codes "red"))) (codes "color") ≡ Some (codes "red") }
-    ensures other_longhand { value_set browser (entry (declaration false (codes "color") (codes "red"))) (codes "width") ≡ None }
-    ensures first_of_a_shorthand { value_set browser (entry (declaration false (codes "margin") (codes "1px 2px"))) (codes "margin-top") ≡ Some (codes "1px") }
-    ensures second_of_a_shorthand { value_set browser (entry (declaration false (codes "margin") (codes "1px 2px"))) (codes "margin-left") ≡ Some (codes "2px") }
-    ensures no_longhand_of_a_shorthand { value_set browser (entry (declaration false (codes "margin") (codes "1px 2px"))) (codes "margin-right") ≡ None }
-    ensures shorthand_is_no_longhand { value_set browser (entry (declaration false (codes "margin") (codes "1px 2px"))) (codes "margin") ≡ None }
-    ensures no_row { value_set browser (entry (declaration false (codes "margin") (codes "3px"))) (codes "margin-top") ≡ None }
-{
-}
+    ensures active { is_active browser (entry (normal "color" "red")) ≡ true }
+    ensures rejected { is_active browser (entry (normal "color" "oops")) ≡ false }
+    ensures other_name { is_active browser (entry (normal "width" "oops")) ≡ true }
+    ensures own_longhand { value_set browser (entry (normal "color" "red")) (codes "color") ≡ Some (codes "red") }
+    ensures other_longhand { value_set browser (entry (normal "color" "red")) (codes "width") ≡ None }
+    ensures first_of_a_shorthand { value_set browser (entry (normal "margin" "1px 2px")) (codes "margin-top") ≡ Some (codes "1px") }
+    ensures second_of_a_shorthand { value_set browser (entry (normal "margin" "1px 2px")) (codes "margin-left") ≡ Some (codes "2px") }
+    ensures no_longhand_of_a_shorthand { value_set browser (entry (normal "margin" "1px 2px")) (codes "margin-right") ≡ None }
+    ensures shorthand_is_no_longhand { value_set browser (entry (normal "margin" "1px 2px")) (codes "margin") ≡ None }
+    ensures no_row { value_set browser (entry (normal "margin" "3px")) (codes "margin-top") ≡ None }
+{}
 
 /// Which declaration wins for the paragraph `.a.red` (CSS Cascading 5, section 6.1).
 pub fn declarations_win()
-    ensures later { winner (asked false (codes "color")) (rule (class (codes "a")) (declaration false (codes "color") (codes "red") ∷ []) ∷ rule (class (codes "red")) (declaration false (codes "color") (codes "blue") ∷ []) ∷ []) ≡ Some (codes "blue") }
-    ensures later_in_a_rule { winner (asked false (codes "color")) (rule every (declaration false (codes "color") (codes "red") ∷ declaration false (codes "color") (codes "blue") ∷ []) ∷ []) ≡ Some (codes "blue") }
-    ensures more_specific { winner (asked false (codes "color")) (rule (class (codes "a")) (declaration false (codes "color") (codes "red") ∷ []) ∷ rule (kind (codes "p")) (declaration false (codes "color") (codes "blue") ∷ []) ∷ []) ≡ Some (codes "red") }
-    ensures more_specific_and_later { winner (asked false (codes "color")) (rule (kind (codes "p")) (declaration false (codes "color") (codes "red") ∷ []) ∷ rule (class (codes "a")) (declaration false (codes "color") (codes "blue") ∷ []) ∷ []) ≡ Some (codes "blue") }
-    ensures important { winner (asked true (codes "color")) (rule every (declaration true (codes "color") (codes "red") ∷ []) ∷ rule (class (codes "a")) (declaration false (codes "color") (codes "blue") ∷ []) ∷ []) ≡ Some (codes "red") }
-    ensures normal { winner (asked false (codes "color")) (rule every (declaration true (codes "color") (codes "red") ∷ []) ∷ rule (class (codes "a")) (declaration false (codes "color") (codes "blue") ∷ []) ∷ []) ≡ Some (codes "blue") }
-    ensures none_important { winner (asked true (codes "color")) (rule every (declaration false (codes "color") (codes "red") ∷ []) ∷ []) ≡ None }
-    ensures rejected { winner (asked false (codes "color")) (rule every (declaration false (codes "color") (codes "red") ∷ declaration false (codes "color") (codes "oops") ∷ []) ∷ []) ≡ Some (codes "red") }
-    ensures unmatched { winner (asked false (codes "color")) (rule (id (codes "b")) (declaration false (codes "color") (codes "red") ∷ []) ∷ []) ≡ None }
-    ensures longhand_of_a_shorthand { winner (asked false (codes "margin-left")) (rule every (declaration false (codes "margin") (codes "1px 2px") ∷ declaration false (codes "margin-top") (codes "3px") ∷ []) ∷ []) ≡ Some (codes "2px") }
-    ensures longhand_over_a_shorthand { winner (asked false (codes "margin-top")) (rule every (declaration false (codes "margin") (codes "1px 2px") ∷ declaration false (codes "margin-top") (codes "3px") ∷ []) ∷ []) ≡ Some (codes "3px") }
-    ensures shorthand_over_a_longhand { winner (asked false (codes "margin-top")) (rule every (declaration false (codes "margin-top") (codes "3px") ∷ declaration false (codes "margin") (codes "1px 2px") ∷ []) ∷ []) ≡ Some (codes "1px") }
-{
-}
+    ensures later { winner (asked false "color") (rule (class "a") (normal "color" "red" ∷ []) ∷ rule (class "red") (normal "color" "blue" ∷ []) ∷ []) ≡ Some (codes "blue") }
+    ensures later_in_a_rule { winner (asked false "color") (rule every (normal "color" "red" ∷ normal "color" "blue" ∷ []) ∷ []) ≡ Some (codes "blue") }
+    ensures more_specific { winner (asked false "color") (rule (class "a") (normal "color" "red" ∷ []) ∷ rule (kind "p") (normal "color" "blue" ∷ []) ∷ []) ≡ Some (codes "red") }
+    ensures more_specific_and_later { winner (asked false "color") (rule (kind "p") (normal "color" "red" ∷ []) ∷ rule (class "a") (normal "color" "blue" ∷ []) ∷ []) ≡ Some (codes "blue") }
+    ensures important { winner (asked true "color") (rule every (important "color" "red" ∷ []) ∷ rule (class "a") (normal "color" "blue" ∷ []) ∷ []) ≡ Some (codes "red") }
+    ensures normal { winner (asked false "color") (rule every (important "color" "red" ∷ []) ∷ rule (class "a") (normal "color" "blue" ∷ []) ∷ []) ≡ Some (codes "blue") }
+    ensures none_important { winner (asked true "color") (rule every (normal "color" "red" ∷ []) ∷ []) ≡ None }
+    ensures rejected { winner (asked false "color") (rule every (normal "color" "red" ∷ normal "color" "oops" ∷ []) ∷ []) ≡ Some (codes "red") }
+    ensures unmatched { winner (asked false "color") (rule (id "b") (normal "color" "red" ∷ []) ∷ []) ≡ None }
+    ensures list_by_its_matching_member { winner (asked false "color") (list_rule (normal "color" "red" ∷ []) ∷ rule (class "red") (normal "color" "blue" ∷ []) ∷ []) ≡ Some (codes "blue") }
+    ensures nested_by_the_most_of_its_parent { winner (asked false "color") (nested_rule (also parent "red") (normal "color" "red" ∷ []) ∷ rule (also (class "a") "red") (normal "color" "blue" ∷ []) ∷ []) ≡ Some (codes "red") }
+    ensures longhand_of_a_shorthand { winner (asked false "margin-left") (rule every (normal "margin" "1px 2px" ∷ normal "margin-top" "3px" ∷ []) ∷ []) ≡ Some (codes "2px") }
+    ensures longhand_over_a_shorthand { winner (asked false "margin-top") (rule every (normal "margin" "1px 2px" ∷ normal "margin-top" "3px" ∷ []) ∷ []) ≡ Some (codes "3px") }
+    ensures shorthand_over_a_longhand { winner (asked false "margin-top") (rule every (normal "margin-top" "3px" ∷ normal "margin" "1px 2px" ∷ []) ∷ []) ≡ Some (codes "1px") }
+{}
 
 /// Layers count before specificity, and among important declarations the other way round (CSS Cascading 5, section 6.4).
 pub fn layers_win()
-    ensures higher { winning false mentions (seen (layer (codes "base")) (specificity 0 0 1) (codes "red") ∷ seen (layer (codes "reset")) (specificity 1 0 0) (codes "blue") ∷ []) ≡ Some (seen (layer (codes "base")) (specificity 0 0 1) (codes "red")) }
-    ensures lower_important { winning true mentions (seen (layer (codes "base")) (specificity 0 0 1) (codes "red") ∷ seen (layer (codes "reset")) (specificity 1 0 0) (codes "blue") ∷ []) ≡ Some (seen (layer (codes "reset")) (specificity 1 0 0) (codes "blue")) }
-    ensures without_a_layer { winning false mentions (seen [] (specificity 0 0 1) (codes "red") ∷ seen (layer (codes "base")) (specificity 1 0 0) (codes "blue") ∷ []) ≡ Some (seen [] (specificity 0 0 1) (codes "red")) }
-    ensures later_of_a_tie { winning false mentions (seen (layer (codes "base")) (specificity 0 1 0) (codes "red") ∷ seen (layer (codes "base")) (specificity 0 1 0) (codes "blue") ∷ []) ≡ Some (seen (layer (codes "base")) (specificity 0 1 0) (codes "blue")) }
+    ensures higher { winning false mentions (seen (layer "base") (specificity 0 0 1) "red" ∷ seen (layer "reset") (specificity 1 0 0) "blue" ∷ []) ≡ Some (seen (layer "base") (specificity 0 0 1) "red") }
+    ensures lower_important { winning true mentions (seen (layer "base") (specificity 0 0 1) "red" ∷ seen (layer "reset") (specificity 1 0 0) "blue" ∷ []) ≡ Some (seen (layer "reset") (specificity 1 0 0) "blue") }
+    ensures without_a_layer { winning false mentions (seen [] (specificity 0 0 1) "red" ∷ seen (layer "base") (specificity 1 0 0) "blue" ∷ []) ≡ Some (seen [] (specificity 0 0 1) "red") }
+    ensures later_of_a_tie { winning false mentions (seen (layer "base") (specificity 0 1 0) "red" ∷ seen (layer "base") (specificity 0 1 0) "blue" ∷ []) ≡ Some (seen (layer "base") (specificity 0 1 0) "blue") }
     ensures none { winning false mentions [] ≡ None }
-{
-}
+{}

@@ -31,5 +31,4 @@ pub fn one_entry_wins()
     ensures found { (important : Bool) (mentions : List LayerPath) (all : List Shown) (x : Shown) → winning important mentions all ≡ Some x → (i : ℕ) × IsWinner important mentions all i x }
     ensures won { (important : Bool) (mentions : List LayerPath) (all : List Shown) (i : ℕ) (x : Shown) → IsWinner important mentions all i x → winning important mentions all ≡ Some x }
     ensures one { (important : Bool) (mentions : List LayerPath) (all : List Shown) (i j : ℕ) (x y : Shown) → IsWinner important mentions all i x → IsWinner important mentions all j y → i ≡ j }
-{
-}
+{}
