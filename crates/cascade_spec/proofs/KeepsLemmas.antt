@@ -1,5 +1,5 @@
 -- What is written from a sheet keeps the winners of its text.
-use Rattle.std.proofs.Common.{◌≡◌, ℕ, ◌≤◌, ◌<◌, List, [], ◌∷◌, ◌++◌, map, Bool, true, false, ◌&&◌, not, Option, Some, None, refl, sym, ◌∙◌, ap, subst, IsTrue, arith, length, take, drop, inl, inr, nat_lt, nat_eq}
+use Rattle.std.proofs.Common.{◌≡◌, ℕ, List, [], ◌∷◌, ◌++◌, map, Bool, true, false, ◌&&◌, not, Option, Some, None, refl, sym, ◌∙◌, ap, IsTrue, length, take, drop, nat_lt, nat_eq}
 use Rattle.std.specs.List.{list_all}
 use Rattle.std.specs.Option.{option_map}
 use Rattle.std.proofs.lemmas.List.{take-append-drop}
@@ -7,7 +7,7 @@ use Rattle.std.proofs.lemmas.List.Folds.{list_all-append}
 use Rattle.css_tokens.specs.declared.kind.Kind.{Kind}
 use Rattle.css_tokens.specs.declared.kind.Kind.TheVariants as kinds
 use Rattle.css_tokens.specs.declared.component.Component.{Component}
-use Rattle.css_tokens.specs.Piece.{Word, spelled}
+use Rattle.css_tokens.specs.Piece.{Word}
 use Rattle.css_tokens.specs.PlainNames.{is_plain_name}
 use Rattle.css_tokens.specs.Tokens.{First, ReadsTo, Reads, first_front, word, is_plain, spells}
 use Rattle.css_tokens.specs.Trees.{words_all, all_formed}
@@ -18,8 +18,8 @@ use Rattle.css_rules.specs.Sheets.{sheet_of, sheet_refusals}
 use Rattle.css_rules.specs.SheetAgain.{sheet_again}
 use Rattle.css_rules.specs.SheetTexts.{sheet_text}
 use Rattle.css_rules.specs.Standing.{AllStand}
-use Rattle.cascade_spec.specs.Cascade.{Question, winner}
-use Rattle.cascade_spec.specs.Readings.{ReadsAs, HasSheet, KeepsWinners}
+use Rattle.cascade_spec.specs.Cascade.{winner}
+use Rattle.cascade_spec.specs.Readings.{ReadsAs, KeepsWinners}
 
 and_left : (a b : Bool) → (a && b) ≡ true → a ≡ true
 and_left true b e = refl

@@ -1,8 +1,8 @@
 -- The cascade: which entry wins (CSS Cascading 5, section 6.1).
-use Rattle.std.specs.Prelude.{ℕ, ◌<◌, List, [], ◌∷◌, map, Bool, true, false, ◌&&◌, not, Option, Some, None, ◌≡◌, ◌⊎◌, if◌then◌else◌, slice_get}
+use Rattle.std.specs.Prelude.{ℕ, ◌<◌, List, [], ◌∷◌, Bool, ◌&&◌, not, Option, Some, None, ◌≡◌, ◌⊎◌, if◌then◌else◌, slice_get}
 use Rattle.std.specs.List.{filter_map}
 use Rattle.std.specs.Option.{option_map}
-use Rattle.std.specs.Ordering.{is_gt, ordering_then, ordering_reverse}
+use Rattle.std.specs.Ordering.{is_gt, ordering_then}
 use Rattle.std.specs.declared.cmp.Ordering.{Ordering}
 use Rattle.std.specs.declared.cmp.Ordering.TheVariants.{Equal, Greater}
 use Rattle.css_rules.specs.Runs.{BareRun}

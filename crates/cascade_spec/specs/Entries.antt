@@ -1,7 +1,6 @@
 -- The entries of a sheet, and which of them are active (CSS Cascading 5, section 6).
-use Rattle.std.specs.Prelude.{ℕ, List, [], ◌∷◌, ◌++◌, map, flat_map, Bool, true, false, ◌&&◌, ◌||◌, not, Option, Some, None, if◌then◌else◌, find}
+use Rattle.std.specs.Prelude.{ℕ, List, [], ◌∷◌, map, flat_map, Bool, ◌&&◌, not, Option, Some, None, if◌then◌else◌, find}
 use Rattle.std.specs.List.{list_any}
-use Rattle.std.specs.Option.{option_map}
 use Rattle.css_tokens.specs.Trees.{is_text}
 use Rattle.css_rules.specs.BareSelectors.{BareSelector}
 use Rattle.css_rules.specs.Runs.{BareRun, BareDeclaration}

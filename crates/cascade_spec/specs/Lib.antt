@@ -5,3 +5,4 @@ pub mod Layers
 pub mod Entries
 pub mod Cascade
 pub mod Readings
+pub mod Samples

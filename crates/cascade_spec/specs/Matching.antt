@@ -1,5 +1,5 @@
 -- Which subjects a selector matches, and how specific it is (Selectors 4, sections 3, 14 and 17; CSS Nesting 1, section 3).
-use Rattle.std.specs.Prelude.{ℕ, zero, suc, ◌+◌, List, [], ◌∷◌, ◌++◌, map, length, slice_get, Bool, true, false, ◌&&◌, ◌||◌, not, Option, Some, None, is_none, is_some, if◌then◌else◌, nat_eq, filter, fold}
+use Rattle.std.specs.Prelude.{ℕ, zero, suc, List, [], ◌∷◌, map, length, slice_get, Bool, true, false, ◌&&◌, ◌||◌, not, Option, Some, None, is_none, is_some, if◌then◌else◌, nat_eq, filter, fold}
 use Rattle.std.specs.List.{list_all, list_any}
 use Rattle.std.specs.Option.{option_and_then, option_map_or}
 use Rattle.css_tokens.specs.Trees.{is_text}

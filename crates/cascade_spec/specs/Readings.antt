@@ -1,5 +1,5 @@
 -- What it is for a text to read as a sheet (CSS Syntax 3, section 5), and for another text to keep its winners.
-use Rattle.std.specs.Prelude.{ℕ, List, [], ◌≡◌, IsTrue, Option}
+use Rattle.std.specs.Prelude.{ℕ, List, [], ◌≡◌, IsTrue}
 use Rattle.css_tokens.specs.declared.component.Component.{Component}
 use Rattle.css_tokens.specs.Tokens.{Reads}
 use Rattle.css_tokens.specs.Trees.{words_all, all_formed}

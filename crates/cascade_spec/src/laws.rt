@@ -1,12 +1,14 @@
 //! Laws about the definitions of this crate, each the contract of a function that does nothing.
 
-ghost use Rattle.std.specs.Prelude.{◌≡◌, ℕ, List, IsTrue};
+ghost use Rattle.std.specs.Prelude.{◌≡◌, ℕ, List, IsTrue, Bool, Some};
 ghost use Rattle.css_tokens.specs.declared.component.Component.{Component};
 ghost use Rattle.css_tokens.specs.Tokens.{is_plain};
 ghost use Rattle.css_rules.specs.Runs.{runs_of, bare_runs};
 ghost use Rattle.css_rules.specs.Sheets.{sheet_of};
 ghost use Rattle.css_rules.specs.SheetTexts.{sheet_text};
 ghost use Rattle.css_rules.specs.declared.sheet.Sheet.{Sheet};
+ghost use Rattle.cascade_spec.specs.Layers.{LayerPath};
+ghost use Rattle.cascade_spec.specs.Cascade.{Shown, IsWinner, winning};
 ghost use Rattle.cascade_spec.specs.Readings.{ReadsAs, HasSheet, KeepsWinners};
 
 /// The text that a sheet prints as keeps the winners of the text that the sheet was read from, and a text reads as one
@@ -22,3 +24,11 @@ pub fn sheets_keep_winners()
     css_rules::sheets_are_read_again();
     css_rules::places_do_not_matter();
 }
+
+/// The entry that is computed as the winner is above every other, no second entry is, and an entry that is above every
+/// other is the one that is computed (CSS Cascading 5, section 6.1).
+pub fn one_entry_wins()
+    ensures found { (important : Bool) (mentions : List LayerPath) (all : List Shown) (x : Shown) → winning important mentions all ≡ Some x → (i : ℕ) × IsWinner important mentions all i x }
+    ensures won { (important : Bool) (mentions : List LayerPath) (all : List Shown) (i : ℕ) (x : Shown) → IsWinner important mentions all i x → winning important mentions all ≡ Some x }
+    ensures one { (important : Bool) (mentions : List LayerPath) (all : List Shown) (i j : ℕ) (x y : Shown) → IsWinner important mentions all i x → IsWinner important mentions all j y → i ≡ j }
+{}

@@ -5,6 +5,7 @@
 
 mod document;
 mod environment;
+pub mod examples;
 mod finding;
 pub mod laws;
 mod place;

@@ -36,3 +36,18 @@ pub fn line_column(text: &[u8], offset: u32) -> LineColumn
     }
     LineColumn { line, column }
 }
+
+#[cfg(test)]
+mod tests {
+    use super::{LineColumn, line_column};
+    use std::test::Fail;
+
+    #[test]
+    fn counts_lines_and_columns(rt: HostRuntime) -> Result<(), Fail> {
+        assert_eq!(rt; line_column(b"a\nbc", 0), LineColumn { line: 1, column: 1 });
+        assert_eq!(rt; line_column(b"a\nbc", 1), LineColumn { line: 1, column: 2 });
+        assert_eq!(rt; line_column(b"a\nbc", 2), LineColumn { line: 2, column: 1 });
+        assert_eq!(rt; line_column(b"a\nbc", 4), LineColumn { line: 2, column: 3 });
+        Ok(())
+    }
+}

@@ -1,0 +1,142 @@
+-- A small document, and selectors, rules and questions over it, for the examples.
+use Rattle.std.specs.Prelude.{ℕ, List, [], ◌∷◌, Bool, true, false, Option, Some, None, codes, filter}
+use Prim.Native.String.{String}
+use Rattle.css_rules.specs.declared.selector.Combinator.{Combinator}
+use Rattle.css_rules.specs.declared.selector.TypeName.TheVariants as types
+use Rattle.css_rules.specs.declared.selector.Simple.TheVariants.{Class, Id, Parent}
+use Rattle.css_rules.specs.BareSelectors.{BareCompound, BareSelector}
+use Rattle.css_rules.specs.Runs.{BareRun, BareDeclaration}
+use Rattle.cascade_spec.specs.declared.document.Element.{Element}
+use Rattle.cascade_spec.specs.declared.document.Document.{Document}
+use Rattle.cascade_spec.specs.declared.environment.Environment.{Environment}
+use Rattle.cascade_spec.specs.Specificities.{Specificity}
+use Rattle.cascade_spec.specs.Matching.{Subject, Around, top, within, selector_holds}
+use Rattle.cascade_spec.specs.Layers.{LayerName, LayerPath}
+use Rattle.cascade_spec.specs.Entries.{Entry, entry_of}
+use Rattle.cascade_spec.specs.Cascade.{Question, Shown}
+
+abbrev pub element : Option ℕ → String → Option (List ℕ) → List (List ℕ) → Element
+element parent kind id classes = record { parent = parent; kind = codes kind; id = id; scoped_id = None; classes = classes; scoped_classes = []; holds = []; tails = [] }
+
+-- <main> <h1 class="a"></h1> <p id="b"></p> <p class="a red"> <em></em> </p> </main>
+abbrev pub page : Document
+page = record {
+  elements =
+      element None "main" None []
+      ∷ element (Some 0) "h1" None (codes "a" ∷ [])
+      ∷ element (Some 0) "p" (Some (codes "b")) []
+      ∷ element (Some 0) "p" None (codes "a" ∷ codes "red" ∷ [])
+      ∷ element (Some 3) "em" None []
+      ∷ [];
+}
+
+abbrev pub whole : ℕ → Subject
+whole n = record { element = n; tail = None }
+
+-- the pseudo-element `::before` of an element
+abbrev pub before : ℕ → Subject
+before n = record { element = n; tail = Some (codes "before") }
+
+-- Selectors.
+
+abbrev pub every : BareCompound
+every = record { kind = types.Universal; simples = [] }
+
+abbrev pub kind : String → BareCompound
+kind name = record { kind = types.Name (codes name); simples = [] }
+
+abbrev pub class : String → BareCompound
+class name = record { kind = types.None; simples = Class (codes name) ∷ [] }
+
+abbrev pub id : String → BareCompound
+id name = record { kind = types.None; simples = Id (codes name) ∷ [] }
+
+abbrev pub parent : BareCompound
+parent = record { kind = types.None; simples = Parent ∷ [] }
+
+-- a compound with one more class
+abbrev pub also : BareCompound → String → BareCompound
+also k name = record { kind = k.kind; simples = Class (codes name) ∷ k.simples }
+
+abbrev pub one : BareCompound → BareSelector
+one k = record { lead = None; first = k; rest = [] }
+
+abbrev pub two : BareCompound → Combinator → BareCompound → BareSelector
+two first combinator second = record { lead = None; first = first; rest = (combinator, second) ∷ [] }
+
+abbrev pub three : BareCompound → Combinator → BareCompound → Combinator → BareCompound → BareSelector
+three first combinator second last third = record { lead = None; first = first; rest = (combinator, second) ∷ (last, third) ∷ [] }
+
+-- a selector that begins with a combinator
+abbrev pub led : Combinator → BareCompound → BareSelector
+led combinator k = record { lead = Some combinator; first = k; rest = [] }
+
+-- `#b, .a`
+abbrev pub either : List BareSelector
+either = one (id "b") ∷ one (class "a") ∷ []
+
+-- inside a rule `#b, .a`
+abbrev pub inside : Around
+inside = within page top either
+
+-- the elements of the page that a selector matches
+abbrev pub matched : Around → BareSelector → List ℕ
+matched around s = filter (λ n. selector_holds page around s (whole n)) (0 ∷ 1 ∷ 2 ∷ 3 ∷ 4 ∷ [])
+
+abbrev pub specificity : ℕ → ℕ → ℕ → Specificity
+specificity a b c = record { a = a; b = b; c = c }
+
+-- Layers.
+
+abbrev pub layer : String → LayerPath
+layer name = LayerName.Named (codes name) ∷ []
+
+abbrev pub sublayer : String → String → LayerPath
+sublayer name inner = LayerName.Named (codes name) ∷ LayerName.Named (codes inner) ∷ []
+
+-- @layer reset, base, base.theme
+abbrev pub mentions : List LayerPath
+mentions = layer "reset" ∷ layer "base" ∷ sublayer "base" "theme" ∷ []
+
+-- what a declaration in a layer shows
+abbrev pub seen : LayerPath → Specificity → String → Shown
+seen path specific value = record { layer = path; specific = specific; value = codes value }
+
+-- Rules.
+
+abbrev pub normal : String → String → BareDeclaration
+normal name value = record { name = codes name; value = codes value; important = false }
+
+abbrev pub important : String → String → BareDeclaration
+important name value = record { name = codes name; value = codes value; important = true }
+
+abbrev pub entry : BareDeclaration → Entry
+entry d = entry_of [] d
+
+abbrev pub rule : BareCompound → List BareDeclaration → BareRun
+rule k declarations = record { chain = (one k ∷ []) ∷ []; declarations = declarations }
+
+-- a rule `#b, .a`
+abbrev pub list_rule : List BareDeclaration → BareRun
+list_rule declarations = record { chain = either ∷ []; declarations = declarations }
+
+-- a rule in a rule `#b, .a`
+abbrev pub nested_rule : BareCompound → List BareDeclaration → BareRun
+nested_rule k declarations = record { chain = either ∷ (one k ∷ []) ∷ []; declarations = declarations }
+
+-- A browser that rejects `color: oops`, and in which `margin: 1px 2px` sets two longhands.
+abbrev pub browser : Environment
+browser = record {
+  media = codes "screen";
+  numbers = [];
+  values = [];
+  features = [];
+  supports = [];
+  unknown = [];
+  rejected = (codes "color", codes "oops") ∷ [];
+  shorthands = record { name = codes "margin"; value = codes "1px 2px"; sets = (codes "margin-top", codes "1px") ∷ (codes "margin-left", codes "2px") ∷ [] } ∷ [];
+}
+
+-- what a longhand of the paragraph `.a.red` is, among declarations of the importance
+abbrev pub asked : Bool → String → Question
+asked important longhand = record { document = page; environment = browser; subject = whole 3; longhand = codes longhand; important = important }
