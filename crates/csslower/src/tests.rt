@@ -1,3 +1,5 @@
+mod rows;
+
 use crate::gate::NoGate;
 use crate::run::run;
 use crate::status::{Status, WordKind};

@@ -14,8 +14,8 @@ returns-in-Err-Syntax-clause-place c =
     let tokens : HasTokens c.args.text.now c.as_slice.result.now = subst (λ (ts : List Piece). HasTokens c.args.text.now ts) (sym c.as_slice.ensures) c.in_ok-tokens.ensures.read in
     let within = c.places_rise_in_a_text.ensures.within c.args.text.now c.as_slice.result.now tokens.read tokens.placed in
     elim (c.in-Err-Syntax.ensures.syntax c.in-Err-Syntax.offset (ap Err c.in-Err-Syntax.field-0-is)) [
-      inl h ↦ c.places_rise_in_a_text.ensures.mismatch c.as_slice.result.now (length c.args.text.now) c.in-Err-Syntax.offset within h
-    | inr h ↦ c.places_rise_in_a_text.ensures.unclosed c.as_slice.result.now (length c.args.text.now) c.in-Err-Syntax.offset h
+      | inl h ↦ c.places_rise_in_a_text.ensures.mismatch c.as_slice.result.now (length c.args.text.now) c.in-Err-Syntax.offset within h
+      | inr h ↦ c.places_rise_in_a_text.ensures.unclosed c.as_slice.result.now (length c.args.text.now) c.in-Err-Syntax.offset h
     ]
 
 pub returns-in-Err-Depth-clause-place : goal.returns-in-Err-Depth-clause-place

@@ -1,0 +1,145 @@
+use super::{one_file, outputs};
+use crate::gate::NoGate;
+use crate::run::run;
+use crate::status::Status;
+use css_outside::MemoryOutbox;
+use css_tokens::List;
+use std::test::Fail;
+
+#[test]
+fn writes_plain_rules(rt: HostRuntime) -> Result<(), Fail> {
+    let rows: [(&[u8], &[u8]); 8] = [
+        (b".a { color: red }", b".a{color:red}\n"),
+        (b"", b""),
+        (b"p{}q{;}/* c */", b""),
+        (b".a{color:#f00}", b".a{color:#f00}\n"),
+        (
+            b"a  b\n.c { x : y z ; ; top:auto }",
+            b"a b .c{x:y z;top:auto}\n",
+        ),
+        (
+            b".a,#b > p~q+*{color:RED!IMPORTANT;;margin : 0 /* c */ auto}",
+            b".a,#b>p~q+*{color:RED!important;margin:0 auto}\n",
+        ),
+        (
+            b".a{--x: 1 /* c */ 2;--b:;--C:{a:b}}",
+            b".a{--x:1 2;--b: ;--C:{a:b}}\n",
+        ),
+        (
+            b"p{width:calc(1px/**/+ 2px);a:b/**/c}",
+            b"p{width:calc(1px/**/+ 2px);a:b/**/c}\n",
+        ),
+    ];
+    for (text, written) in rows {
+        let mut files = one_file(
+            rt.alloc(),
+            "a.css",
+            Vec::from_slice(rt.alloc(), text)?,
+            false,
+        )?;
+        let mut out = outputs(rt.alloc())?;
+        let status = run(rt.alloc(), &["a.css"], &mut files, &mut out, &NoGate);
+        assert_eq!(rt; status, Status::Done);
+        assert_eq!(rt; out.held("-"), Some(written));
+        assert_eq!(rt; out.held("!"), None);
+    }
+    Ok(())
+}
+
+#[test]
+fn names_what_stands_first(rt: HostRuntime) -> Result<(), Fail> {
+    let rows: [(&[u8], &[u8]); 9] = [
+        (b".a{color:red", b"a.css:1:13: Syntax cannot be read\n"),
+        (
+            b".a{color:red}.a{color:red",
+            b"a.css:1:26: Syntax cannot be read\n",
+        ),
+        (b"p{color:red}]", b"a.css:1:13: Syntax cannot be read\n"),
+        (b"p{color:\"x", b"a.css:1:9: Syntax cannot be read\n"),
+        (
+            b".a{width:100px\\9}",
+            b"a.css:1:15: Unbuilt not built yet\n",
+        ),
+        (b"a:hover{color:red}", b"a.css:1:2: Unbuilt not built yet\n"),
+        (
+            b"@media print{p{color:red}}",
+            b"a.css:1:1: Unbuilt not built yet\n",
+        ),
+        (
+            b"p{background:url(x.png)}",
+            b"a.css:1:14: Unbuilt not built yet\n",
+        ),
+        (b"p{margin-inline:0}", b"a.css:1:3: Unbuilt not built yet\n"),
+    ];
+    for (text, line) in rows {
+        let mut files = one_file(
+            rt.alloc(),
+            "a.css",
+            Vec::from_slice(rt.alloc(), text)?,
+            false,
+        )?;
+        let mut out = outputs(rt.alloc())?;
+        let status = run(rt.alloc(), &["a.css"], &mut files, &mut out, &NoGate);
+        assert_eq!(rt; status.number(), 1);
+        assert_eq!(rt; out.held("!"), Some(line));
+        assert_eq!(rt; out.held("-"), None);
+    }
+    Ok(())
+}
+
+#[test]
+fn refuses_the_block_at_depth_65(rt: HostRuntime) -> Result<(), Fail> {
+    let text = vec![in rt.alloc(); b'('; 65]?;
+    let mut files = one_file(rt.alloc(), "a.css", text, false)?;
+    let mut out = outputs(rt.alloc())?;
+    let status = run(rt.alloc(), &["a.css"], &mut files, &mut out, &NoGate);
+    assert_eq!(rt; status.number(), 1);
+    assert_eq!(rt;
+        out.held("!"),
+        Some(b"a.css:1:65: Depth nested too deep\n".as_slice())
+    );
+    assert_eq!(rt; out.held("-"), None);
+    Ok(())
+}
+
+#[test]
+fn takes_a_comment_of_four_mebibytes(rt: HostRuntime) -> Result<(), Fail> {
+    let mut text = Vec::from_slice(rt.alloc(), b"/*")?;
+    text.resize(4_194_302, b'*')?;
+    text.extend_from_slice(b"*/")?;
+    let mut files = one_file(rt.alloc(), "a.css", text, false)?;
+    let mut out = outputs(rt.alloc())?;
+    let status = run(rt.alloc(), &["a.css"], &mut files, &mut out, &NoGate);
+    assert_eq!(rt; status, Status::Done);
+    assert_eq!(rt; out.held("-"), Some(b"".as_slice()));
+    Ok(())
+}
+
+#[test]
+fn writes_by_five_bytes_a_put(rt: HostRuntime) -> Result<(), Fail> {
+    let text = Vec::from_slice(rt.alloc(), b".a { color: red }")?;
+    let mut files = one_file(rt.alloc(), "a.css", text, false)?;
+    let mut out = MemoryOutbox::new(rt.alloc(), 5, List::new(rt.alloc()));
+    out.reserve("-", 14)?;
+    let status = run(rt.alloc(), &["a.css"], &mut files, &mut out, &NoGate);
+    assert_eq!(rt; status, Status::Done);
+    assert_eq!(rt; out.held("-"), Some(b".a{color:red}\n".as_slice()));
+    Ok(())
+}
+
+#[test]
+fn stops_at_a_put_that_fails(rt: HostRuntime) -> Result<(), Fail> {
+    let text = Vec::from_slice(rt.alloc(), b".a { color: red }")?;
+    let mut files = one_file(rt.alloc(), "a.css", text, false)?;
+    let mut out = MemoryOutbox::new(rt.alloc(), 5, List::from_vec(vec![in rt.alloc(); 2]?));
+    out.reserve("-", 14)?;
+    out.reserve("!", 100)?;
+    let status = run(rt.alloc(), &["a.css"], &mut files, &mut out, &NoGate);
+    assert_eq!(rt; status, Status::WriteFault);
+    assert_eq!(rt; out.held("-"), Some(b".a{co".as_slice()));
+    assert_eq!(rt;
+        out.held("!"),
+        Some(b"csslower: cannot write -\n".as_slice())
+    );
+    Ok(())
+}
