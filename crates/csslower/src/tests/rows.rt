@@ -8,11 +8,15 @@ use std::test::Fail;
 
 #[test]
 fn writes_plain_rules(rt: HostRuntime) -> Result<(), Fail> {
-    let rows: [(&[u8], &[u8]); 8] = [
+    let rows: [(&[u8], &[u8]); 9] = [
         (b".a { color: red }", b".a{color:red}\n"),
         (b"", b""),
         (b"p{}q{;}/* c */", b""),
         (b".a{color:#f00}", b".a{color:#f00}\n"),
+        (
+            b".a{color:red}.b{top:0;left:0}",
+            b".a{color:red}\n.b{top:0;left:0}\n",
+        ),
         (
             b"a  b\n.c { x : y z ; ; top:auto }",
             b"a b .c{x:y z;top:auto}\n",
