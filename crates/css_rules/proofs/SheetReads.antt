@@ -1,15 +1,15 @@
 -- The text of a printed sheet reads as the words of its components.
-use Rattle.std.proofs.Common.{◌≡◌, ℕ, List, [], ◌∷◌, ◌++◌, map, flat_map, Bool, true, false, ◌&&◌, ◌||◌, not, refl, sym, ◌∙◌, ap, subst, IsTrue, codes, length, drop, Option, Some, None, is_none}
+use Rattle.std.proofs.Common.{◌≡◌, ℕ, List, [], ◌∷◌, ◌++◌, flat_map, Bool, true, false, ◌&&◌, not, refl, sym, ◌∙◌, ap, subst, IsTrue, codes, length, drop, Option, Some, None, is_none}
 use Rattle.std.specs.List.{list_all, AllByRecursion}
 use Rattle.std.proofs.lemmas.List.{append_assoc, append-nil}
 use Rattle.css_tokens.specs.declared.kind.Kind.TheVariants as kinds
 use Rattle.css_tokens.specs.declared.component.Component.{Component}
-use Rattle.css_tokens.specs.Piece.{Piece, Word, word_of, spelled}
+use Rattle.css_tokens.specs.Piece.{Word, spelled}
 use Rattle.css_tokens.specs.NameText.{name_text}
 use Rattle.css_tokens.specs.PlainNames.{is_plain_name}
 use Rattle.css_tokens.specs.Characters.{white}
 use Rattle.css_tokens.specs.Again.{StaysFirst, is_stop, marks, word_from, begins_none, after_ident}
-use Rattle.css_tokens.specs.Tokens.{First, ReadsTo, Reads, classes_of, is_refused, spells}
+use Rattle.css_tokens.specs.Tokens.{ReadsTo, Reads, classes_of, is_refused, spells}
 use Rattle.css_tokens.specs.Trees.{words_all, all_formed}
 use Rattle.css_tokens.specs.Values.{value_text, value_words}
 use Rattle.css_tokens.specs.ValueAgain.{value_again}
@@ -19,21 +19,21 @@ use Rattle.css_rules.specs.declared.selector.TypeName.{TypeName}
 use Rattle.css_rules.specs.declared.selector.TypeName.TheVariants as types
 use Rattle.css_rules.specs.declared.selector.Simple.{Simple}
 use Rattle.css_rules.specs.declared.selector.Simple.TheVariants as simples
-use Rattle.css_rules.specs.BareSelectors.{BareCompound, BareSelector}
-use Rattle.css_rules.specs.ReadableSelectors.{is_readable_list, is_readable_selector, is_readable_compound, is_readable_type, is_readable_simple, has_type, has_simples}
+use Rattle.css_rules.specs.BareSelectors.{BareSelector}
+use Rattle.css_rules.specs.ReadableSelectors.{is_readable_list, is_readable_selector, is_readable_compound, is_readable_simple}
 use Rattle.css_rules.specs.Components.{is_gap}
 use Rattle.css_rules.specs.Runs.{Run}
-use Rattle.css_rules.specs.Printable.{IsPrintable, IsPrintableDeclaration, ArePrintable, begins_solid}
+use Rattle.css_rules.specs.Printable.{IsPrintableDeclaration, ArePrintable, begins_solid}
 use Rattle.css_rules.specs.Standing.{Stands, AllStand}
 use Rattle.css_rules.specs.SelectorTexts.{list_text, selector_text, compound_text, type_text, simple_text, more_text, links_text, ends_in_dashes, lead_text}
 use Rattle.css_rules.specs.SelectorWords.{word, single_of, list_again}
 use Rattle.css_rules.specs.SheetTexts.{innermost, sheet_text}
-use Rattle.css_rules.specs.SheetAgain.{colon, semicolon, space, line_feed, value_or_space, importance_again, declaration_again, more_again, declarations_again, block_again, run_again, sheet_again}
+use Rattle.css_rules.specs.SheetAgain.{colon, semicolon, line_feed, value_or_space, importance_again, declaration_again, declarations_again, block_again, run_again, sheet_again}
 use Rattle.css_rules.proofs.PreludeAgain.{words-cons}
 use Rattle.css_rules.proofs.SelectorSpelling.{and-left, and-right}
 use Rattle.css_rules.proofs.RulesAgain.{made}
 use Rattle.css_rules.proofs.ValueFacts.{ValueLaws, printed-some}
-use Rattle.css_rules.proofs.SheetSpelled.{text_of, words-append, text-append, text-cons, words-brace, text-brace, text-importance, text-sheet, formed-sheet, ListText}
+use Rattle.css_rules.proofs.SheetSpelled.{text_of, words-append, text-append, text-cons, words-brace, text-brace, text-importance, text-sheet, ListText}
 
 -- what is ensured of tokens that are written one after another
 pub record ReadLaws : Type 0 where

@@ -1,17 +1,14 @@
 -- The components of a printed sheet spell its text, and are well formed.
-use Rattle.std.proofs.Common.{◌≡◌, ℕ, List, [], ◌∷◌, ◌++◌, map, flat_map, Bool, true, false, ◌&&◌, not, refl, sym, ◌∙◌, ap, subst, IsTrue, codes}
-use Rattle.std.specs.List.{list_all, AllByRecursion}
-use Rattle.std.proofs.lemmas.List.{append_assoc, append-nil, map-append}
+use Rattle.std.proofs.Common.{◌≡◌, ℕ, List, [], ◌∷◌, ◌++◌, map, Bool, true, false, ◌&&◌, not, refl, sym, ◌∙◌, ap, IsTrue, codes}
+use Rattle.std.specs.List.{AllByRecursion}
+use Rattle.std.proofs.lemmas.List.{append_assoc, map-append}
 use Rattle.std.proofs.lemmas.Grind.{flat_map-append}
 use Rattle.std.proofs.lemmas.List.Folds.{list_all-append}
 use Rattle.css_tokens.specs.declared.kind.Kind.TheVariants as kinds
 use Rattle.css_tokens.specs.declared.component.Component.{Component}
-use Rattle.css_tokens.specs.declared.component.Component as component
-use Rattle.css_tokens.specs.declared.component.Block as block
 use Rattle.css_tokens.specs.Piece.{Piece, Word, word_of, spelled}
 use Rattle.css_tokens.specs.NameText.{name_text}
-use Rattle.css_tokens.specs.Trees.{pieces_all, pieces_of, words_all, all_formed, is_formed, is_formed-Single, is_formed-Block, pieces_of-Single, pieces_of-Block, closing}
-use Rattle.css_tokens.specs.Values.{value_text, value_words}
+use Rattle.css_tokens.specs.Trees.{pieces_all, pieces_of, words_all, all_formed, is_formed, is_formed-Single, is_formed-Block, pieces_of-Block, closing}
 use Rattle.css_tokens.specs.ValueAgain.{value_again}
 use Rattle.css_rules.specs.declared.sheet.Declaration.{Declaration}
 use Rattle.css_rules.specs.BareSelectors.{BareSelector}
@@ -21,7 +18,7 @@ use Rattle.css_rules.specs.Printable.{IsPrintable, IsPrintableDeclaration, ArePr
 use Rattle.css_rules.specs.SelectorTexts.{list_text}
 use Rattle.css_rules.specs.SelectorWords.{word, single_of, list_again}
 use Rattle.css_rules.specs.SheetTexts.{printed_value, importance_text, declaration_text, more_declarations, declarations_text, innermost, run_text, sheet_text}
-use Rattle.css_rules.specs.SheetAgain.{colon, semicolon, space, line_feed, value_or_space, importance_again, declaration_again, more_again, declarations_again, block_again, run_again, sheet_again}
+use Rattle.css_rules.specs.SheetAgain.{colon, line_feed, value_or_space, importance_again, declaration_again, more_again, declarations_again, block_again, run_again, sheet_again}
 use Rattle.css_rules.proofs.Heads.{piece_of}
 use Rattle.css_rules.proofs.PreludeAgain.{words-cons}
 use Rattle.css_rules.proofs.ValueFacts.{ValueLaws, printed-some}
