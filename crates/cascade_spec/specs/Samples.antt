@@ -9,6 +9,7 @@ use Rattle.css_rules.specs.Runs.{BareRun, BareDeclaration}
 use Rattle.cascade_spec.specs.declared.document.Element.{Element}
 use Rattle.cascade_spec.specs.declared.document.Document.{Document}
 use Rattle.cascade_spec.specs.declared.environment.Environment.{Environment}
+use Rattle.cascade_spec.specs.declared.environment.Shorthand.{Shorthand}
 use Rattle.cascade_spec.specs.Specificities.{Specificity}
 use Rattle.cascade_spec.specs.Matching.{Subject, Around, top, within, selector_holds}
 use Rattle.cascade_spec.specs.Layers.{LayerName, LayerPath}
@@ -18,7 +19,7 @@ use Rattle.cascade_spec.specs.Cascade.{Question, Shown}
 abbrev pub element : Option ℕ → String → Option (List ℕ) → List (List ℕ) → Element
 element parent kind id classes = record { parent = parent; kind = codes kind; id = id; scoped_id = None; classes = classes; scoped_classes = []; holds = []; tails = [] }
 
--- <main> <h1 class="a"></h1> <p id="b"></p> <p class="a red"> <em></em> </p> </main>
+-- <main> <h1 class="a"></h1> <p id="b"></p> <p class="a red"> <em></em> </p> </main> <aside></aside>
 abbrev pub page : Document
 page = record {
   elements =
@@ -27,6 +28,7 @@ page = record {
       ∷ element (Some 0) "p" (Some (codes "b")) []
       ∷ element (Some 0) "p" None (codes "a" ∷ codes "red" ∷ [])
       ∷ element (Some 3) "em" None []
+      ∷ element None "aside" None []
       ∷ [];
 }
 
@@ -81,7 +83,7 @@ inside = within page top either
 
 -- the elements of the page that a selector matches
 abbrev pub matched : Around → BareSelector → List ℕ
-matched around s = filter (λ n. selector_holds page around s (whole n)) (0 ∷ 1 ∷ 2 ∷ 3 ∷ 4 ∷ [])
+matched around s = filter (λ n. selector_holds page around s (whole n)) (0 ∷ 1 ∷ 2 ∷ 3 ∷ 4 ∷ 5 ∷ [])
 
 abbrev pub specificity : ℕ → ℕ → ℕ → Specificity
 specificity a b c = record { a = a; b = b; c = c }
@@ -93,6 +95,9 @@ layer name = LayerName.Named (codes name) ∷ []
 
 abbrev pub sublayer : String → String → LayerPath
 sublayer name inner = LayerName.Named (codes name) ∷ LayerName.Named (codes inner) ∷ []
+
+abbrev pub unnamed : ℕ → LayerPath
+unnamed number = LayerName.Anonymous number ∷ []
 
 -- @layer reset, base, base.theme
 abbrev pub mentions : List LayerPath
@@ -124,7 +129,14 @@ list_rule declarations = record { chain = either ∷ []; declarations = declarat
 abbrev pub nested_rule : BareCompound → List BareDeclaration → BareRun
 nested_rule k declarations = record { chain = either ∷ (one k ∷ []) ∷ []; declarations = declarations }
 
--- A browser that rejects `color: oops`, and in which `margin: 1px 2px` sets two longhands.
+-- what a declaration of a shorthand sets
+abbrev pub row : String → String → List (List ℕ × List ℕ) → Shorthand
+row name value sets = record { name = codes name; value = codes value; sets = sets }
+
+abbrev pub sets : String → String → List ℕ × List ℕ
+sets name value = (codes name, codes value)
+
+-- A browser that rejects `color: oops`, and in which `margin: 1px 2px` sets two longhands. Of `gap: 1px` it has two rows, and in the first a longhand twice.
 abbrev pub browser : Environment
 browser = record {
   media = codes "screen";
@@ -134,7 +146,11 @@ browser = record {
   supports = [];
   unknown = [];
   rejected = (codes "color", codes "oops") ∷ [];
-  shorthands = record { name = codes "margin"; value = codes "1px 2px"; sets = (codes "margin-top", codes "1px") ∷ (codes "margin-left", codes "2px") ∷ [] } ∷ [];
+  shorthands =
+      row "margin" "1px 2px" (sets "margin-top" "1px" ∷ sets "margin-left" "2px" ∷ [])
+      ∷ row "gap" "1px" (sets "row-gap" "0px" ∷ sets "row-gap" "1px" ∷ [])
+      ∷ row "gap" "1px" (sets "row-gap" "9px" ∷ sets "column-gap" "9px" ∷ [])
+      ∷ [];
 }
 
 -- what a longhand of the paragraph `.a.red` is, among declarations of the importance

@@ -6,11 +6,11 @@ ghost use Rattle.std.specs.declared.cmp.Ordering.TheVariants.{Less, Equal, Great
 ghost use Rattle.css_rules.specs.declared.selector.Combinator.TheVariants.{Descendant, Child, Next, Later};
 ghost use Rattle.cascade_spec.specs.Lines.{line_of, column_of};
 ghost use Rattle.cascade_spec.specs.Specificities.{plus, specificity_cmp, greatest};
-ghost use Rattle.cascade_spec.specs.Matching.{top, selector_holds, selector_specificity};
+ghost use Rattle.cascade_spec.specs.Matching.{top, within, selector_holds, selector_specificity};
 ghost use Rattle.cascade_spec.specs.Layers.{layer_cmp};
 ghost use Rattle.cascade_spec.specs.Entries.{is_active, value_set};
 ghost use Rattle.cascade_spec.specs.Cascade.{winning, winner};
-ghost use Rattle.cascade_spec.specs.Samples.{page, whole, before, every, kind, class, id, parent, also, one, two, three, led, inside, matched, specificity, layer, sublayer, mentions, seen, normal, important, entry, rule, list_rule, nested_rule, browser, asked};
+ghost use Rattle.cascade_spec.specs.Samples.{page, whole, before, every, kind, class, id, parent, also, one, two, three, led, inside, matched, specificity, layer, sublayer, unnamed, mentions, seen, normal, important, entry, rule, list_rule, nested_rule, browser, asked};
 
 /// Lines and columns begin at 1, and only LF begins a line.
 pub fn lines_and_columns()
@@ -28,7 +28,7 @@ pub fn lines_and_columns()
 
 /// Which elements of the page a selector at the top of a sheet matches (Selectors 4, sections 5, 6 and 14).
 pub fn selectors_match()
-    ensures universal { matched top (one every) ≡ 0 ∷ 1 ∷ 2 ∷ 3 ∷ 4 ∷ [] }
+    ensures universal { matched top (one every) ≡ 0 ∷ 1 ∷ 2 ∷ 3 ∷ 4 ∷ 5 ∷ [] }
     ensures type_name { matched top (one (kind "p")) ≡ 2 ∷ 3 ∷ [] }
     ensures class_name { matched top (one (class "a")) ≡ 1 ∷ 3 ∷ [] }
     ensures id_name { matched top (one (id "b")) ≡ 2 ∷ [] }
@@ -44,9 +44,11 @@ pub fn selectors_match()
     ensures next_of_a_kind { matched top (two (kind "p") Next (kind "p")) ≡ 3 ∷ [] }
     ensures later { matched top (two (kind "h1") Later (kind "p")) ≡ 2 ∷ 3 ∷ [] }
     ensures not_earlier { matched top (two (kind "p") Later (kind "h1")) ≡ [] }
+    ensures without_parents_are_siblings { matched top (two (kind "main") Next (kind "aside")) ≡ 5 ∷ [] }
+    ensures no_sibling_of_another_parent { matched top (two (kind "p") Later (kind "aside")) ≡ [] }
     ensures later_then_descendant { matched top (three (kind "h1") Later (kind "p") Descendant (kind "em")) ≡ 4 ∷ [] }
     ensures next_then_descendant { matched top (three (kind "h1") Next (kind "p") Descendant (kind "em")) ≡ [] }
-    ensures no_element { selector_holds page top (one every) (whole 5) ≡ false }
+    ensures no_element { selector_holds page top (one every) (whole 6) ≡ false }
     ensures no_pseudo_element { selector_holds page top (one every) (before 3) ≡ false }
     ensures no_parent_rule { matched top (one parent) ≡ [] }
 {}
@@ -56,6 +58,7 @@ pub fn nested_selectors_match()
     ensures parent_alone { matched inside (one parent) ≡ 1 ∷ 2 ∷ 3 ∷ [] }
     ensures compound { matched inside (one (also parent "red")) ≡ 3 ∷ [] }
     ensures descendant_is_implied { matched inside (one (kind "em")) ≡ 4 ∷ [] }
+    ensures of_any_ancestor { matched (within page top (one (kind "main") ∷ [])) (one (kind "em")) ≡ 4 ∷ [] }
     ensures not_of_the_parent_itself { matched inside (one (kind "p")) ≡ [] }
     ensures parent_is_implied { matched inside (led Child (kind "em")) ≡ 4 ∷ [] }
     ensures next_of_the_parent { matched inside (led Next every) ≡ 2 ∷ 3 ∷ [] }
@@ -95,6 +98,8 @@ pub fn layers_have_an_order()
     ensures inner_is_lower { layer_cmp mentions (sublayer "base" "theme") (layer "base") ≡ Less }
     ensures inner_of_a_later { layer_cmp mentions (sublayer "base" "theme") (layer "reset") ≡ Greater }
     ensures none_is_highest { layer_cmp mentions [] (layer "base") ≡ Greater }
+    ensures first_unnamed { layer_cmp (unnamed 0 ∷ layer "base" ∷ unnamed 1 ∷ []) (unnamed 0) (layer "base") ≡ Less }
+    ensures second_unnamed { layer_cmp (unnamed 0 ∷ layer "base" ∷ unnamed 1 ∷ []) (unnamed 1) (layer "base") ≡ Greater }
     ensures itself { layer_cmp mentions (layer "base") (layer "base") ≡ Equal }
 {}
 
@@ -109,6 +114,8 @@ pub fn declarations_set()
     ensures second_of_a_shorthand { value_set browser (entry (normal "margin" "1px 2px")) (codes "margin-left") ≡ Some (codes "2px") }
     ensures no_longhand_of_a_shorthand { value_set browser (entry (normal "margin" "1px 2px")) (codes "margin-right") ≡ None }
     ensures shorthand_is_no_longhand { value_set browser (entry (normal "margin" "1px 2px")) (codes "margin") ≡ None }
+    ensures last_of_a_name { value_set browser (entry (normal "gap" "1px")) (codes "row-gap") ≡ Some (codes "1px") }
+    ensures first_row { value_set browser (entry (normal "gap" "1px")) (codes "column-gap") ≡ None }
     ensures no_row { value_set browser (entry (normal "margin" "3px")) (codes "margin-top") ≡ None }
 {}
 
