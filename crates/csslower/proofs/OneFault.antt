@@ -1,5 +1,5 @@
 -- Tokens have one fault of brackets at most, and none where their brackets are paired.
-use Rattle.std.proofs.Common.{◌≡◌, ℕ, ◌≤◌, List, [], ◌∷◌, ◌++◌, Option, Some, None, length, refl, ap, sym, ◌∙◌, ◌⊎◌, inl, inr, arith, append_assoc, option_and_then, unwrap_or, subst}
+use Rattle.std.proofs.Common.{◌≡◌, ℕ, ◌≤◌, List, [], ◌∷◌, ◌++◌, Some, None, length, refl, ap, sym, ◌∙◌, ◌⊎◌, inl, inr, arith, append_assoc, option_and_then, unwrap_or, subst}
 use Rattle.std.proofs.Math.Seq.{take-append_seam}
 use Rattle.css_tokens.specs.Piece.{Piece}
 use Rattle.css_tokens.specs.Pairing.{awaited, awaited_after, awaited_next, depth, IsShallow, IsSoundBefore, IsMismatch, IsTooDeep, IsUnclosed, IsPaired}

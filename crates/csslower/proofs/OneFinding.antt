@@ -1,6 +1,5 @@
 -- At most one finding stands against a text, and none where the text is accepted.
-use Rattle.std.proofs.Common.{◌≡◌, ℕ, ◌+◌, List, [], ◌∷◌, Option, Some, None, MatchOption, length, map, refl, ap, sym, ◌∙◌, inl, inr, subst, IsTrue, true, false}
-use Rattle.std.proofs.lemmas.Bool.{cases_Bool}
+use Rattle.std.proofs.Common.{◌≡◌, ℕ, ◌+◌, List, [], ◌∷◌, Option, Some, None, MatchOption, length, map, refl, ap, sym, ◌∙◌, inl, inr, subst, IsTrue}
 use Rattle.std.specs.List.{position}
 use Rattle.css_tokens.specs.declared.component.Component.{Component}
 use Rattle.css_tokens.specs.declared.kind.Kind.{Kind}
