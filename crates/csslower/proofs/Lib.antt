@@ -4,3 +4,5 @@ mod Loads
 mod Printing
 mod Plain
 mod TextFaults
+mod OneFault
+mod OneFinding

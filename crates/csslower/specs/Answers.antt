@@ -44,6 +44,11 @@ abbrev pub IsFine : List ℕ → Option (List ℕ) → Type 0
 IsFine path None = ⊥
 IsFine path (Some bytes) = (is_scoped path ≡ false) × IsAccepted bytes
 
+-- at most one finding stands first against the file, and none where nothing stands against it
+pub record HasOneAnswer (path : List ℕ) (found : Option (List ℕ)) : Type 0 where
+  pub first : (a b : Finding) → IsFirst path found a → IsFirst path found b → a ≡ b
+  pub none : IsFine path found → (a : Finding) → IsFirst path found a → ⊥
+
 -- the answer is that the words are no command exactly where they are none
 abbrev pub UsageFits : List (List ℕ) → Status → Type 0
 UsageFits words (Usage kind) = entry_of words ≡ None

@@ -1,6 +1,6 @@
 -- What stands against a file's text. What comes first of these is named: a byte that waits for a later stage, where
 -- reading stops, a bracket that is not paired, what the sheet is refused for.
-use Rattle.std.specs.Prelude.{ℕ, ◌≡◌, ◌⊎◌, ◌≤◌, ◌<◌, List, [], length, map, IsTrue, Bool, ◌&&◌, not, Option, Some, None, MatchOption, nat_lt, nat_eq}
+use Rattle.std.specs.Prelude.{ℕ, ◌≡◌, ◌⊎◌, ◌≤◌, List, [], length, map, IsTrue, Bool, ◌&&◌, not, Some, None, MatchOption, nat_lt, nat_eq}
 use Rattle.std.specs.List.{position}
 use Rattle.css_tokens.specs.declared.component.Component.{Component}
 use Rattle.css_tokens.specs.Pairing.{IsPaired, IsMismatch, IsUnclosed, IsTooDeep}

@@ -5,6 +5,7 @@
 
 mod gate;
 mod judge;
+mod laws;
 mod load;
 mod one_file;
 mod print;

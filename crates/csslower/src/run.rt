@@ -2,13 +2,14 @@ ghost use Rattle.std.specs.Prelude.{◌≡◌, ◌≤◌, ◌∷◌, [], Some, m
 ghost use Rattle.std.specs.Option.{option_map, unwrap_or};
 ghost use Rattle.css_outside.specs.Counts.{Rose};
 ghost use Rattle.css_outside.specs.Names.{Told, bytes_under};
-ghost use Rattle.csslower.specs.Answers.{ForEntry, UsageFits, LimitFits, RefusalFits, WritingFits, IsExact, IsOfCommand};
+ghost use Rattle.csslower.specs.Answers.{ForEntry, UsageFits, LimitFits, RefusalFits, WritingFits, IsExact, IsOfCommand, HasOneAnswer};
 ghost use Rattle.csslower.specs.Leaving.{Leaves, WinnersFit, ReadyFits, AsksFor};
 ghost use Rattle.csslower.specs.Saying.{Said};
 ghost use Rattle.csslower.specs.Words.{entry_of};
 
 use crate::gate::Gate;
 use crate::judge::{finding_at, judge, lack};
+use crate::laws::one_finding;
 use crate::load::{Load, read_whole};
 use crate::refuse::refuse;
 use crate::say::{say, say_unread};
@@ -33,6 +34,7 @@ pub fn run<F: Files, O: Outbox, G: Gate + Sync>(
     ensures refused { ForEntry (map (λ word. word.now) words.now) (F.told files.old) (λ path found. RefusalFits path found result) }
     ensures accepted { ForEntry (map (λ word. word.now) words.now) (F.told files.old) (λ path found. WritingFits path found result) }
     ensures exactly { (Rose (F.faults files.old) (F.faults files.new) → ⊥) → (Rose (O.faults out.old) (O.faults out.new) → ⊥) → ForEntry (map (λ word. word.now) words.now) (F.told files.old) (λ path found. IsExact path found result) }
+    ensures one_answer { ForEntry (map (λ word. word.now) words.now) (F.told files.old) (λ path found. HasOneAnswer path found) }
     ensures read_fault { result ≡ Status.ReadFault → Rose (F.faults files.old) (F.faults files.new) }
     ensures write_fault { result ≡ Status.WriteFault → Rose (O.faults out.old) (O.faults out.new) }
     ensures held { Leaves (O.held out.old) (O.held out.new) result }
@@ -40,6 +42,7 @@ pub fn run<F: Files, O: Outbox, G: Gate + Sync>(
     ensures ready { ReadyFits (O.ready out.old) (O.ready out.new) result }
     ensures said { let path = unwrap_or (entry_of (map (λ word. word.now) words.now)) [] in Told (O.held out.old) (O.held out.new) (Said path (option_map (λ files. bytes_under files path) (F.told files.old)) (Rose (O.message_faults out.old) (O.message_faults out.new)) result) }
 {
+    one_finding();
     match entry(words) {
         Some(path) => run_entry(alloc, path, files, out),
         None => {

@@ -1,5 +1,4 @@
-use Rattle.std.proofs.Common.{◌≡◌, ◌⊎◌, ℕ, ◌≤◌, List, length, subst, sym, ap, Err, inl, inr}
-use Rattle.css_tokens.specs.Pairing.{IsMismatch, IsUnclosed}
+use Rattle.std.proofs.Common.{List, length, subst, sym, ap, Err, inl, inr}
 use Rattle.css_tokens.specs.Piece.{Piece}
 use Rattle.csslower.specs.Findings.{HasTokens}
 use Rattle.csslower.proofs.read_text.text_components.Goals as goal

@@ -1,4 +1,4 @@
-use Rattle.std.proofs.Common.{ℕ, length, subst}
+use Rattle.std.proofs.Common.{length, subst}
 use Rattle.css_rules.specs.declared.reader.RuleFault.{RuleFault}
 use Rattle.css_rules.specs.Refusals.{first_refusal}
 use Rattle.css_rules.specs.Sheets.{sheet_refusals, IsNamed}

@@ -1,0 +1,105 @@
+-- At most one finding stands against a text, and none where the text is accepted.
+use Rattle.std.proofs.Common.{◌≡◌, ℕ, ◌+◌, List, [], ◌∷◌, Option, Some, None, MatchOption, length, map, refl, ap, sym, ◌∙◌, inl, inr, subst, IsTrue}
+use Rattle.std.specs.List.{position}
+use Rattle.css_tokens.specs.declared.component.Component.{Component}
+use Rattle.css_tokens.specs.declared.kind.Kind.{Kind}
+use Rattle.css_tokens.specs.Piece.{Piece, Word, word_of}
+use Rattle.css_tokens.specs.Tokens.{Reads, IsPlaced, StopsAt}
+use Rattle.css_tokens.specs.Trees.{pieces_all, all_formed}
+use Rattle.css_rules.specs.Refusals.{first_refusal}
+use Rattle.css_rules.specs.Sheets.{sheet_refusals}
+use Rattle.cascade_spec.specs.declared.finding.Code.{Code}
+use Rattle.cascade_spec.specs.declared.finding.Code.TheVariants.{Syntax, Depth, Missing, Unbuilt}
+use Rattle.csslower.specs.Findings.{is_unbuilt, HasTokens, HasComponents, IsBracketFault, IsRefused, HasReadingFinding, HasFinding, IsReadable, IsAccepted}
+use Rattle.csslower.proofs.OneFault.{fault_one, fault_none}
+
+-- what the laws of tokens and components say
+pub record ReadingLaws : Type 0 where
+  pub one : (t : List ℕ) (a b : List Word) → Reads t a → Reads t b → a ≡ b
+  pub place : (t : List ℕ) (o p : ℕ) → StopsAt t o → StopsAt t p → o ≡ p
+  pub either : (t : List ℕ) (ws : List Word) (o : ℕ) → Reads t ws → StopsAt t o → ⊥
+  pub pairing : (a b : List Component) → pieces_all a ≡ pieces_all b → IsTrue (all_formed a) → IsTrue (all_formed b) → a ≡ b
+
+abbrev piece : Kind → List ℕ → ℕ → Piece
+piece k t a = record { kind = k; text = t; at = a }
+
+piece_one : (k l : Kind) (t u : List ℕ) (a b : ℕ) → k ≡ l → t ≡ u → a ≡ b → piece k t a ≡ piece l u b
+piece_one k l t u a b e f g = cc (e, f, g)
+
+placed_one : (n : ℕ) (a b : List Piece) → IsPlaced n a → IsPlaced n b → map word_of a ≡ map word_of b → a ≡ b
+placed_one n [] [] p q e = refl
+placed_one n [] (y ∷ ys) p q e = absurd (cc e)
+placed_one n (x ∷ xs) [] p q e = absurd (cc e)
+placed_one n (x ∷ xs) (y ∷ ys) p q e =
+    let w : word_of x ≡ word_of y = cc e in
+    let text : x.text ≡ y.text = ap (λ (v : Word). v.text) w in
+    let h : x ≡ y = piece_one x.kind y.kind x.text y.text x.at y.at (ap (λ (v : Word). v.kind) w) text (p.0 ∙ sym q.0) in
+    let more : xs ≡ ys = placed_one (n + length x.text) xs ys p.1 (subst (λ u. IsPlaced (n + length u) ys) (sym text) q.1) (cc e) in
+    cc (h, more)
+
+-- one answer to a code and a place
+abbrev IsSame : Code → Code → ℕ → ℕ → Type 0
+IsSame c d o p = (c ≡ d) × (o ≡ p)
+
+refused_one : (cs : List Component) (c d : Code) (o p : ℕ) → IsRefused cs c o → IsRefused cs d p → IsSame c d o p
+refused_one cs Syntax Syntax o p a b = (refl, (let e = sym a ∙ b in cc e))
+refused_one cs Unbuilt Unbuilt o p a b = (refl, (let e = sym a ∙ b in cc e))
+refused_one cs Syntax Unbuilt o p a b = absurd (let e = sym a ∙ b in cc e)
+refused_one cs Unbuilt Syntax o p a b = absurd (let e = sym a ∙ b in cc e)
+refused_one cs Syntax Depth o p a b = absurd b
+refused_one cs Syntax Missing o p a b = absurd b
+refused_one cs Unbuilt Depth o p a b = absurd b
+refused_one cs Unbuilt Missing o p a b = absurd b
+refused_one cs Depth d o p a b = absurd a
+refused_one cs Missing d o p a b = absurd a
+
+refused_none : (cs : List Component) (c : Code) (o : ℕ) → sheet_refusals cs ≡ [] → IsRefused cs c o → ⊥
+refused_none cs Syntax o none a = let e = sym (ap first_refusal none) ∙ a in cc e
+refused_none cs Unbuilt o none a = let e = sym (ap first_refusal none) ∙ a in cc e
+refused_none cs Depth o none a = a
+refused_none cs Missing o none a = a
+
+module _ (laws : ReadingLaws) (bytes : List ℕ) where
+  tokens_one : (a b : List Piece) → HasTokens bytes a → HasTokens bytes b → a ≡ b
+  tokens_one a b p q = placed_one 0 a b p.placed q.placed (laws.one bytes (map word_of a) (map word_of b) p.read q.read)
+
+  components_one : (a b : List Component) → HasComponents bytes a → HasComponents bytes b → a ≡ b
+  components_one a b p q = laws.pairing a b (tokens_one (pieces_all a) (pieces_all b) p.tokens q.tokens) p.formed q.formed
+
+  stop_none : (a : List Piece) (o : ℕ) → HasTokens bytes a → StopsAt bytes o → ⊥
+  stop_none a o p s = laws.either bytes (map word_of a) o p.read s
+
+  fault_or_components : (ts : List Piece) (cs : List Component) (c : Code) (o : ℕ) → HasTokens bytes ts → IsBracketFault ts (length bytes) c o → HasComponents bytes cs → ⊥
+  fault_or_components ts cs c o p fault q = fault_none (pieces_all cs) (length bytes) c o q.paired (subst (λ us. IsBracketFault us (length bytes) c o) (tokens_one ts (pieces_all cs) p q.tokens) fault)
+
+  reading_one : (c d : Code) (o p : ℕ) → HasReadingFinding bytes c o → HasReadingFinding bytes d p → IsSame c d o p
+  reading_one c d o p (inl a) (inl b) = (a.0 ∙ sym b.0, laws.place bytes o p a.1 b.1)
+  reading_one c d o p (inl a) (inr (inl b)) = absurd (stop_none b.0 o b.1 a.1)
+  reading_one c d o p (inl a) (inr (inr b)) = absurd (stop_none (pieces_all b.0) o b.1.tokens a.1)
+  reading_one c d o p (inr (inl a)) (inl b) = absurd (stop_none a.0 p a.1 b.1)
+  reading_one c d o p (inr (inr a)) (inl b) = absurd (stop_none (pieces_all a.0) p a.1.tokens b.1)
+  reading_one c d o p (inr (inl a)) (inr (inl b)) = fault_one b.0 (length bytes) c d o p (subst (λ us. IsBracketFault us (length bytes) c o) (tokens_one a.0 b.0 a.1 b.1) a.2) b.2
+  reading_one c d o p (inr (inl a)) (inr (inr b)) = absurd (fault_or_components a.0 b.0 c o a.1 a.2 b.1)
+  reading_one c d o p (inr (inr a)) (inr (inl b)) = absurd (fault_or_components b.0 a.0 d p b.1 b.2 a.1)
+  reading_one c d o p (inr (inr a)) (inr (inr b)) = refused_one b.0 c d o p (subst (λ cs. IsRefused cs c o) (components_one a.0 b.0 a.1 b.1) a.2) b.2
+
+  reading_none : (c : Code) (o : ℕ) → IsReadable bytes → HasReadingFinding bytes c o → ⊥
+  reading_none c o r (inl a) = stop_none (pieces_all r.0) o r.1.tokens a.1
+  reading_none c o r (inr (inl a)) = fault_or_components a.0 r.0 c o a.1 a.2 r.1
+  reading_none c o r (inr (inr a)) = refused_none r.0 c o r.2 (subst (λ cs. IsRefused cs c o) (components_one a.0 r.0 a.1 r.1) a.2)
+
+  -- what stands against the text, by its first byte that waits for a later stage
+  abbrev Stands : Option ℕ → Code → ℕ → Type 0
+  Stands found code offset = MatchOption found (HasReadingFinding bytes code offset) (λ place. (code ≡ Unbuilt) × (offset ≡ place))
+
+  stands_one : (found : Option ℕ) (c d : Code) (o p : ℕ) → Stands found c o → Stands found d p → IsSame c d o p
+  stands_one None c d o p a b = reading_one c d o p a b
+  stands_one (Some place) c d o p a b = (a.0 ∙ sym b.0, a.1 ∙ sym b.1)
+
+  pub finding_one : (c d : Code) (o p : ℕ) → HasFinding bytes c o → HasFinding bytes d p → (c ≡ d) × (o ≡ p)
+  unfolding HasFinding
+  finding_one c d o p a b = stands_one (position is_unbuilt bytes) c d o p a b
+
+  pub finding_none : (c : Code) (o : ℕ) → IsAccepted bytes → HasFinding bytes c o → ⊥
+  unfolding HasFinding IsAccepted
+  finding_none c o fine a = reading_none c o fine.1 (subst (λ found. Stands found c o) fine.0 a)

@@ -1,0 +1,11 @@
+use Rattle.csslower.proofs.OneFinding.{ReadingLaws, finding_one, finding_none}
+use Rattle.csslower.proofs.laws.one_finding.Goals as goal
+
+pub returns : goal.returns
+returns c =
+    let reading = c.one_reading.ensures in
+    let laws : ReadingLaws = record { one = reading.one; place = reading.place; either = reading.either; pairing = c.one_pairing.ensures } in
+    record {
+      one = finding_one laws;
+      either = finding_none laws;
+    }

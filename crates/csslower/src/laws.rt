@@ -1,0 +1,14 @@
+//! A law about the definitions of this crate, the contract of a function that does nothing.
+
+ghost use Rattle.std.specs.Prelude.{◌≡◌, ℕ, List};
+ghost use Rattle.cascade_spec.specs.declared.finding.Code.{Code};
+ghost use Rattle.csslower.specs.Findings.{HasFinding, IsAccepted};
+
+/// At most one finding stands against a text, and none where the text is accepted.
+pub fn one_finding()
+    ensures one { (bytes : List ℕ) (c d : Code) (o p : ℕ) → HasFinding bytes c o → HasFinding bytes d p → (c ≡ d) × (o ≡ p) }
+    ensures either { (bytes : List ℕ) (c : Code) (o : ℕ) → IsAccepted bytes → HasFinding bytes c o → ⊥ }
+{
+    css_tokens::one_reading();
+    css_tokens::one_pairing();
+}
