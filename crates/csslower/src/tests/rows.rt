@@ -120,6 +120,22 @@ fn takes_a_comment_of_four_mebibytes(rt: HostRuntime) -> Result<(), Fail> {
 }
 
 #[test]
+fn takes_four_mebibytes_of_small_rules(rt: HostRuntime) -> Result<(), Fail> {
+    let mut text = Vec::new(rt.alloc());
+    for _ in 0..599_186 {
+        text.extend_from_slice(b"p{a:b}\n")?;
+    }
+    text.extend_from_slice(b"  ")?;
+    let mut files = one_file(rt.alloc(), "a.css", text, false)?;
+    let mut out = MemoryOutbox::new(rt.alloc(), 4_194_304, List::new(rt.alloc()));
+    out.reserve("-", 4_194_302)?;
+    let status = run(rt.alloc(), &["a.css"], &mut files, &mut out, &NoGate);
+    assert_eq!(rt; status, Status::Done);
+    assert_eq!(rt; out.held("-").map(|held| held.len()), Some(4_194_302));
+    Ok(())
+}
+
+#[test]
 fn writes_by_five_bytes_a_put(rt: HostRuntime) -> Result<(), Fail> {
     let text = Vec::from_slice(rt.alloc(), b".a { color: red }")?;
     let mut files = one_file(rt.alloc(), "a.css", text, false)?;
