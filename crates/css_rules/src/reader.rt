@@ -157,6 +157,7 @@ fn read_block<'a>(
         push_some(&mut declarations, declaration)?;
         from = end + 1;
     }
+    declarations.shrink_to_fit();
     Ok(Judged {
         value: run_of(alloc, declarations)?,
         refusal,
@@ -170,10 +171,11 @@ fn run_of<'a>(
 ) -> Result<List<Item<'a>>, OutOfMemory>
     ensures { IfOk result (λ items. items ≡ run_of declarations.entry) }
 {
-    let mut items = List::new(alloc);
-    if !declarations.is_empty() {
-        items.push(Item::Plain(declarations))?;
+    if declarations.is_empty() {
+        return Ok(List::new(alloc));
     }
+    let mut items = List::new(alloc);
+    items.push(Item::Plain(declarations))?;
     Ok(items)
 }
 

@@ -61,7 +61,7 @@ pub fn copy_all<'a>(
 ) -> Result<List<Component<'a>>, OutOfMemory>
     ensures { IfOk result (λ copies. copies ≡ components.now) }
 {
-    let mut copies = List::new(alloc);
+    let mut copies = List::with_capacity(alloc, components.len())?;
     for component in components {
         copies.push(component.copy(alloc)?)?;
     }

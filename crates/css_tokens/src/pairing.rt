@@ -45,6 +45,9 @@ impl<T: Drop> From<AllocFailed<T>> for ComponentFault {
 /// How many blocks may be open at once.
 const MOST_OPEN: usize = 64;
 
+/// For how many components a block has room when it opens.
+const ROOM: usize = 16;
+
 /// A block whose closing token is still to come.
 #[derive(Debug, Drop)]
 struct Opened<'a> {
@@ -106,7 +109,8 @@ impl<'a> Nest<'a> {
         ensures awaited { OnOk result (nest_awaited self.new ≡ closing_text token.entry.text ∷ nest_awaited self.old) }
         ensures formed { OnOk result (nest_formed self.old ≡ true → nest_formed self.new ≡ true) }
     {
-        let before = mem::replace(&mut self.items, List::new(alloc));
+        let inside = List::with_capacity(alloc, ROOM)?;
+        let before = mem::replace(&mut self.items, inside);
         self.outer.push(Opened {
             before,
             opening: token,
@@ -130,7 +134,8 @@ impl<'a> Nest<'a> {
         if token.text != closing_text(opening.text) {
             return Err(ComponentFault::Syntax(token.at));
         }
-        let items = mem::replace(&mut self.items, before);
+        let mut items = mem::replace(&mut self.items, before);
+        items.shrink_to_fit();
         let close = token.at;
         self.items.push(Component::Block(Block {
             opening,

@@ -94,7 +94,7 @@ fn control_place(text: &[u8]) -> Option<usize>
 fn is_control_character(byte: u8) -> bool
     ensures { result ≡ is_control byte }
 {
-    matches!(classify(byte), Class::Control)
+    matches!(byte, 0..=8 | 11 | 14..=31 | 127)
 }
 
 fn all_tokens<'a>(alloc: Global, text: &'a str) -> Result<List<Token<'a>>, TokenFault>

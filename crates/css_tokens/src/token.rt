@@ -10,10 +10,10 @@ use std::marker::Model;
 pub struct Token<'a> {
     /// What it is.
     pub kind: Kind,
-    /// The characters, as the source has them.
-    pub text: &'a str,
     /// How many bytes of the source stand before it.
     pub at: u32,
+    /// The characters, as the source has them.
+    pub text: &'a str,
 }
 
 impl<'a> Model for Token<'a> {
