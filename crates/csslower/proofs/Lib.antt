@@ -6,3 +6,4 @@ mod Plain
 mod TextFaults
 mod OneFault
 mod OneFinding
+mod FirstAnswers

@@ -1,5 +1,5 @@
 -- Which answer a file gets.
-use Rattle.std.specs.Prelude.{◌≡◌, ℕ, ◌<◌, List, length, IsTrue, false, Option, Some, None, IfSome, IsSome}
+use Rattle.std.specs.Prelude.{◌≡◌, ℕ, ◌<◌, List, length, IsTrue, false, Option, Some, None, IfSome, IsSome, MatchOption}
 use Rattle.cascade_spec.specs.declared.finding.Code.{Code}
 use Rattle.cascade_spec.specs.declared.finding.Code.TheVariants.{Missing, Unbuilt}
 use Rattle.cascade_spec.specs.declared.finding.Finding.{Finding}
@@ -8,6 +8,7 @@ use Rattle.css_outside.specs.Names.{Names}
 use Rattle.csslower.specs.Words.{entry_of, is_scoped}
 use Rattle.csslower.specs.Findings.{HasFinding, IsAccepted}
 use Rattle.csslower.specs.declared.status.Status.{Status}
+use Rattle.csslower.specs.declared.status.WordKind.TheVariants.{Words}
 use Rattle.csslower.specs.declared.status.Status.TheVariants.{Done, Refused, Usage, ReadFault, WriteFault, Memory, Limit}
 
 -- the number with which the program ends
@@ -43,11 +44,6 @@ IsFirst path found finding = (finding.place.file ≡ 0) × StandsFirst path foun
 abbrev pub IsFine : List ℕ → Option (List ℕ) → Type 0
 IsFine path None = ⊥
 IsFine path (Some bytes) = (is_scoped path ≡ false) × IsAccepted bytes
-
--- at most one finding stands first against the file, and none where nothing stands against it
-pub record HasOneAnswer (path : List ℕ) (found : Option (List ℕ)) : Type 0 where
-  pub first : (a b : Finding) → IsFirst path found a → IsFirst path found b → a ≡ b
-  pub none : IsFine path found → (a : Finding) → IsFirst path found a → ⊥
 
 -- the answer is that the words are no command exactly where they are none
 abbrev pub UsageFits : List (List ℕ) → Status → Type 0
@@ -89,15 +85,26 @@ WritingFits path found ReadFault = Unit {0}
 WritingFits path found Memory = Unit {0}
 WritingFits path found (Limit kind) = Unit {0}
 
--- the answer of a run in which nothing failed: what stands against the file, `Done` where nothing does, or want of memory
-abbrev pub IsExact : List ℕ → Option (List ℕ) → Status → Type 0
-IsExact path found Done = (IsLong found → ⊥) × IsFine path found
-IsExact path found (Refused finding) = (IsLong found → ⊥) × IsFirst path found finding
-IsExact path found (Limit L2) = IsLong found
-IsExact path found Memory = Unit {0}
-IsExact path found (Usage kind) = ⊥
-IsExact path found ReadFault = ⊥
-IsExact path found WriteFault = ⊥
+-- This answer stands first of those about the file: that it is too long, else the finding that stands first against it, else
+-- `Done`, which says that nothing stands against it.
+abbrev pub IsFirstOfFile : List ℕ → Option (List ℕ) → Status → Type 0
+IsFirstOfFile path found (Limit L2) = IsLong found
+IsFirstOfFile path found (Refused finding) = (IsLong found → ⊥) × IsFirst path found finding
+IsFirstOfFile path found Done = (IsLong found → ⊥) × IsFine path found
+IsFirstOfFile path found (Usage kind) = ⊥
+IsFirstOfFile path found ReadFault = ⊥
+IsFirstOfFile path found WriteFault = ⊥
+IsFirstOfFile path found Memory = ⊥
+
+-- `First` over the words and the told files: that the words are no command, else the first of the answers about the file
+-- that they name. `Done` says that none stands.
+abbrev pub First : List (List ℕ) → Names → Status → Type 0
+First words files answer = MatchOption (entry_of words) (answer ≡ Usage Words) (λ path. IsFirstOfFile path (files path) answer)
+
+-- over all words and files, one answer stands first
+pub record HasFirst (words : List (List ℕ)) (files : Names) : Type 0 where
+  pub some : (answer : Status) × First words files answer
+  pub one : (a b : Status) → First words files a → First words files b → a ≡ b
 
 -- an answer that words which are a command can get
 abbrev pub IsOfCommand : Status → Type 0

@@ -1,7 +1,7 @@
 ghost use Rattle.std.specs.Prelude.{◌≡◌, ◌≤◌, Some, ℕ, List, Option, length};
 ghost use Rattle.css_outside.specs.Counts.{Rose};
 ghost use Rattle.css_outside.specs.Names.{Told};
-ghost use Rattle.csslower.specs.Answers.{LimitFits, RefusalFits, WritingFits, IsExact, IsOfText, IsOfWriting};
+ghost use Rattle.csslower.specs.Answers.{LimitFits, RefusalFits, WritingFits, IsFirstOfFile, IsOfText, IsOfWriting};
 ghost use Rattle.csslower.specs.Leaving.{Leaves, WinnersFit, ReadyFits, Writes};
 ghost use Rattle.css_outside.specs.Putting.{IsReady};
 ghost use Rattle.csslower.specs.Lines.{memory_line};
@@ -27,7 +27,7 @@ pub(crate) fn judge<O: Outbox>(alloc: Global, path: &str, source: &[u8], out: &m
     ensures limit { LimitFits (Some source.now) result }
     ensures refused { RefusalFits path.now (Some source.now) result }
     ensures accepted { WritingFits path.now (Some source.now) result }
-    ensures exactly { (Rose (O.faults out.old) (O.faults out.new) → ⊥) → IsExact path.now (Some source.now) result }
+    ensures exactly { (Rose (O.faults out.old) (O.faults out.new) → ⊥) → (result ≡ Status.Memory → ⊥) → IsFirstOfFile path.now (Some source.now) result }
     ensures write_fault { result ≡ Status.WriteFault → Rose (O.faults out.old) (O.faults out.new) }
     ensures held { Leaves (O.held out.old) (O.held out.new) result }
     ensures ready { ReadyFits (O.ready out.old) (O.ready out.new) result }

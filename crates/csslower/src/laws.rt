@@ -1,7 +1,9 @@
-//! A law about the definitions of this crate, the contract of a function that does nothing.
+//! Laws about the definitions of this crate, each the contract of a function that does nothing.
 
 ghost use Rattle.std.specs.Prelude.{◌≡◌, ℕ, List};
 ghost use Rattle.cascade_spec.specs.declared.finding.Code.{Code};
+ghost use Rattle.css_outside.specs.Names.{Names};
+ghost use Rattle.csslower.specs.Answers.{HasFirst};
 ghost use Rattle.csslower.specs.Findings.{HasFinding, IsAccepted};
 
 /// At most one finding stands against a text, and none where the text is accepted.
@@ -11,4 +13,11 @@ pub fn one_finding()
 {
     css_tokens::one_reading();
     css_tokens::one_pairing();
+}
+
+/// Over all words and files one answer stands first, and no more than one.
+pub fn first_answer()
+    ensures { (words : List (List ℕ)) (files : Names) → HasFirst words files }
+{
+    one_finding();
 }

@@ -1,15 +1,15 @@
 ghost use Rattle.std.specs.Prelude.{◌≡◌, ◌≤◌, ◌∷◌, [], Some, map, length, IfSome};
 ghost use Rattle.std.specs.Option.{option_map, unwrap_or};
 ghost use Rattle.css_outside.specs.Counts.{Rose};
-ghost use Rattle.css_outside.specs.Names.{Told, bytes_under};
-ghost use Rattle.csslower.specs.Answers.{ForEntry, UsageFits, LimitFits, RefusalFits, WritingFits, IsExact, IsOfCommand, HasOneAnswer};
+ghost use Rattle.css_outside.specs.Names.{Names, Told, bytes_under};
+ghost use Rattle.csslower.specs.Answers.{ForEntry, UsageFits, LimitFits, RefusalFits, WritingFits, IsFirstOfFile, IsOfCommand, First, HasFirst};
 ghost use Rattle.csslower.specs.Leaving.{Leaves, WinnersFit, ReadyFits, AsksFor};
 ghost use Rattle.csslower.specs.Saying.{Said};
 ghost use Rattle.csslower.specs.Words.{entry_of};
 
 use crate::gate::Gate;
 use crate::judge::{finding_at, judge, lack};
-use crate::laws::one_finding;
+use crate::laws::first_answer;
 use crate::load::{Load, read_whole};
 use crate::refuse::refuse;
 use crate::say::{say, say_unread};
@@ -33,8 +33,8 @@ pub fn run<F: Files, O: Outbox, G: Gate + Sync>(
     ensures limit { ForEntry (map (λ word. word.now) words.now) (F.told files.old) (λ _ found. LimitFits found result) }
     ensures refused { ForEntry (map (λ word. word.now) words.now) (F.told files.old) (λ path found. RefusalFits path found result) }
     ensures accepted { ForEntry (map (λ word. word.now) words.now) (F.told files.old) (λ path found. WritingFits path found result) }
-    ensures exactly { (Rose (F.faults files.old) (F.faults files.new) → ⊥) → (Rose (O.faults out.old) (O.faults out.new) → ⊥) → ForEntry (map (λ word. word.now) words.now) (F.told files.old) (λ path found. IsExact path found result) }
-    ensures one_answer { ForEntry (map (λ word. word.now) words.now) (F.told files.old) (λ path found. HasOneAnswer path found) }
+    ensures exactly { (Rose (F.faults files.old) (F.faults files.new) → ⊥) → (Rose (O.faults out.old) (O.faults out.new) → ⊥) → (result ≡ Status.Memory → ⊥) → IfSome (F.told files.old) (λ told. First (map (λ word. word.now) words.now) told result) }
+    ensures one_answer { (told : Names) → HasFirst (map (λ word. word.now) words.now) told }
     ensures read_fault { result ≡ Status.ReadFault → Rose (F.faults files.old) (F.faults files.new) }
     ensures write_fault { result ≡ Status.WriteFault → Rose (O.faults out.old) (O.faults out.new) }
     ensures held { Leaves (O.held out.old) (O.held out.new) result }
@@ -42,7 +42,7 @@ pub fn run<F: Files, O: Outbox, G: Gate + Sync>(
     ensures ready { ReadyFits (O.ready out.old) (O.ready out.new) result }
     ensures said { let path = unwrap_or (entry_of (map (λ word. word.now) words.now)) [] in Told (O.held out.old) (O.held out.new) (Said path (option_map (λ files. bytes_under files path) (F.told files.old)) (Rose (O.message_faults out.old) (O.message_faults out.new)) result) }
 {
-    one_finding();
+    first_answer();
     match entry(words) {
         Some(path) => run_entry(alloc, path, files, out),
         None => {
@@ -62,7 +62,7 @@ fn run_entry<F: Files, O: Outbox>(alloc: Global, path: &str, files: &mut F, out:
     ensures limit { IfSome (F.told files.old) (λ told. LimitFits (told path.now) result) }
     ensures refused { IfSome (F.told files.old) (λ told. RefusalFits path.now (told path.now) result) }
     ensures accepted { IfSome (F.told files.old) (λ told. WritingFits path.now (told path.now) result) }
-    ensures exactly { (Rose (F.faults files.old) (F.faults files.new) → ⊥) → (Rose (O.faults out.old) (O.faults out.new) → ⊥) → IfSome (F.told files.old) (λ told. IsExact path.now (told path.now) result) }
+    ensures exactly { (Rose (F.faults files.old) (F.faults files.new) → ⊥) → (Rose (O.faults out.old) (O.faults out.new) → ⊥) → (result ≡ Status.Memory → ⊥) → IfSome (F.told files.old) (λ told. IsFirstOfFile path.now (told path.now) result) }
     ensures read_fault { result ≡ Status.ReadFault → Rose (F.faults files.old) (F.faults files.new) }
     ensures write_fault { result ≡ Status.WriteFault → Rose (O.faults out.old) (O.faults out.new) }
     ensures held { Leaves (O.held out.old) (O.held out.new) result }

@@ -1,0 +1,200 @@
+-- Over all words and files there is one answer that stands first.
+use Rattle.std.proofs.Common.{◌≡◌, ℕ, ◌+◌, ◌<◌, List, [], ◌∷◌, Option, Some, None, MatchOption, IsTrue, Bool, true, false, length, map, refl, ap, sym, ◌∙◌, ◌⊎◌, inl, inr, subst, arith, nat_lt}
+use Rattle.std.specs.List.{position}
+use Rattle.css_outside.specs.Names.{Names}
+use Rattle.css_tokens.specs.declared.component.Component.{Component}
+use Rattle.css_tokens.specs.Pairing.{IsPaired, IsMismatch, IsUnclosed, IsTooDeep}
+use Rattle.css_tokens.specs.Piece.{Piece, Word, word_of}
+use Rattle.css_tokens.specs.Tokens.{Reads, IsPlaced, StopsAt}
+use Rattle.css_tokens.specs.Trees.{pieces_all, all_formed}
+use Rattle.css_rules.specs.declared.refusal.Refusal.{Refusal}
+use Rattle.css_rules.specs.declared.refusal.Refusal.TheVariants as refusal
+use Rattle.css_rules.specs.Refusals.{first_refusal, sooner_of, sooner}
+use Rattle.css_rules.specs.Sheets.{sheet_refusals}
+use Rattle.cascade_spec.specs.declared.finding.Code.{Code}
+use Rattle.cascade_spec.specs.declared.finding.Code.TheVariants.{Syntax, Depth, Missing, Unbuilt}
+use Rattle.cascade_spec.specs.declared.finding.Finding.{Finding}
+use Rattle.cascade_spec.specs.declared.finding.LimitKind.TheVariants.{L2}
+use Rattle.csslower.specs.Answers.{IsLong, IsFirst, IsFine, IsFirstOfFile, First, HasFirst}
+use Rattle.csslower.specs.Findings.{is_unbuilt, HasTokens, HasComponents, IsBracketFault, IsReadable, IsAccepted, HasFinding, HasReadingFinding}
+use Rattle.csslower.specs.Words.{entry_of, is_scoped}
+use Rattle.csslower.specs.declared.status.Status.{Status}
+use Rattle.csslower.specs.declared.status.Status.TheVariants.{Done, Refused, Usage, ReadFault, WriteFault, Memory, Limit}
+use Rattle.csslower.specs.declared.status.WordKind.TheVariants.{Words}
+
+-- what the laws of tokens, components and findings say
+pub record AnswerLaws : Type 0 where
+  pub read : (t : List ℕ) → ((ws : List Word) × Reads t ws) ⊎ ((o : ℕ) × StopsAt t o)
+  pub paired : (ts : List Piece) (end : ℕ) → IsPaired ts ⊎ ((o : ℕ) × (IsMismatch ts o ⊎ (IsUnclosed ts end o ⊎ IsTooDeep ts o)))
+  pub components : (ts : List Piece) → IsPaired ts → (cs : List Component) × (pieces_all cs ≡ ts) × IsTrue (all_formed cs)
+  pub one : (bytes : List ℕ) (c d : Code) (o p : ℕ) → HasFinding bytes c o → HasFinding bytes d p → (c ≡ d) × (o ≡ p)
+  pub either : (bytes : List ℕ) (c : Code) (o : ℕ) → IsAccepted bytes → HasFinding bytes c o → ⊥
+
+-- the words in their places
+placed_from : ℕ → List Word → List Piece
+placed_from at [] = []
+placed_from at (w ∷ ws) = record { kind = w.kind; text = w.text; at = at } ∷ placed_from (at + length w.text) ws
+
+words_of_placed : (at : ℕ) (ws : List Word) → map word_of (placed_from at ws) ≡ ws
+unfolding placed_from
+words_of_placed at [] = refl
+words_of_placed at (w ∷ ws) = ap (λ tail. w ∷ tail) (words_of_placed (at + length w.text) ws)
+
+placed_are_placed : (at : ℕ) (ws : List Word) → IsPlaced at (placed_from at ws)
+unfolding placed_from
+placed_are_placed at [] = tt
+placed_are_placed at (w ∷ ws) = (refl, placed_are_placed (at + length w.text) ws)
+
+-- where anything is refused, one refusal is named
+some_refusal : (rs : List Refusal) → (rs ≡ []) ⊎ ((r : Refusal) × (first_refusal rs ≡ Some r))
+some_refusal [] = inl refl
+some_refusal (r ∷ rs) = inr (named (first_refusal rs))
+  where
+    named : (rest : Option Refusal) → (s : Refusal) × (sooner_of (Some r) rest ≡ Some s)
+    named None = (r, refl)
+    named (Some s) = (sooner r s, refl)
+
+abbrev HasSomeFinding : List ℕ → Type 0
+HasSomeFinding bytes = (code : Code) × (offset : ℕ) × HasReadingFinding bytes code offset
+
+module _ (laws : AnswerLaws) where
+  refused_by : (bytes : List ℕ) (cs : List Component) → HasComponents bytes cs → (r : Refusal) → first_refusal (sheet_refusals cs) ≡ Some r → HasSomeFinding bytes
+  refused_by bytes cs has (refusal.Syntax at) named = (Syntax, at, inr (inr (cs, has, named)))
+  refused_by bytes cs has (refusal.Unbuilt at) named = (Unbuilt, at, inr (inr (cs, has, named)))
+
+  of_components : (bytes : List ℕ) (cs : List Component) → HasComponents bytes cs → IsReadable bytes ⊎ HasSomeFinding bytes
+  of_components bytes cs has =
+      elim (some_refusal (sheet_refusals cs)) [
+        | inl none ↦ inl (cs, has, none)
+        | inr some ↦ inr (refused_by bytes cs has some.0 some.1)
+      ]
+
+  of_paired : (bytes : List ℕ) (ts : List Piece) → HasTokens bytes ts → IsPaired ts → IsReadable bytes ⊎ HasSomeFinding bytes
+  of_paired bytes ts has paired =
+      let made = laws.components ts paired in
+      of_components bytes made.0 (record { tokens = subst (HasTokens bytes) (sym made.1) has; formed = made.2; paired = subst IsPaired (sym made.1) paired })
+
+  of_fault : (bytes : List ℕ) (ts : List Piece) → HasTokens bytes ts → (o : ℕ) → IsMismatch ts o ⊎ (IsUnclosed ts (length bytes) o ⊎ IsTooDeep ts o) → HasSomeFinding bytes
+  of_fault bytes ts has o (inl fault) = (Syntax, o, inr (inl (ts, has, inl fault)))
+  of_fault bytes ts has o (inr (inl fault)) = (Syntax, o, inr (inl (ts, has, inr fault)))
+  of_fault bytes ts has o (inr (inr fault)) = (Depth, o, inr (inl (ts, has, fault)))
+
+  of_tokens : (bytes : List ℕ) (ts : List Piece) → HasTokens bytes ts → IsReadable bytes ⊎ HasSomeFinding bytes
+  of_tokens bytes ts has =
+      elim (laws.paired ts (length bytes)) [
+        | inl paired ↦ of_paired bytes ts has paired
+        | inr fault ↦ inr (of_fault bytes ts has fault.0 fault.1)
+      ]
+
+  of_words : (bytes : List ℕ) (ws : List Word) → Reads bytes ws → IsReadable bytes ⊎ HasSomeFinding bytes
+  of_words bytes ws reads = of_tokens bytes (placed_from 0 ws) (record { read = subst (Reads bytes) (sym (words_of_placed 0 ws)) reads; placed = placed_are_placed 0 ws })
+
+  -- a text is readable, or something stands against it
+  of_text : (bytes : List ℕ) → IsReadable bytes ⊎ HasSomeFinding bytes
+  of_text bytes =
+      elim (laws.read bytes) [
+        | inl words ↦ of_words bytes words.0 words.1
+        | inr stop ↦ inr (Syntax, stop.0, inl (refl, stop.1))
+      ]
+
+  abbrev Stands : List ℕ → Option ℕ → Code → ℕ → Type 0
+  Stands bytes found code offset = MatchOption found (HasReadingFinding bytes code offset) (λ place. (code ≡ Unbuilt) × (offset ≡ place))
+
+  of_unbuilt : (bytes : List ℕ) (found : Option ℕ) → ((found ≡ None) × IsReadable bytes) ⊎ ((code : Code) × (offset : ℕ) × Stands bytes found code offset)
+  of_unbuilt bytes (Some place) = inr (Unbuilt, place, (refl, refl))
+  of_unbuilt bytes None =
+      elim (of_text bytes) [
+        | inl fine ↦ inl (refl, fine)
+        | inr some ↦ inr some
+      ]
+
+  accepted_or_not : (bytes : List ℕ) → IsAccepted bytes ⊎ ((code : Code) × (offset : ℕ) × HasFinding bytes code offset)
+  unfolding HasFinding IsAccepted
+  accepted_or_not bytes = of_unbuilt bytes (position is_unbuilt bytes)
+
+  abbrev finding_at : ℕ → ℕ → Code → Finding
+  finding_at file offset code = record { place = record { file = file; offset = offset }; code = code }
+
+  abbrev finding_of : ℕ → Code → Finding
+  finding_of offset code = finding_at 0 offset code
+
+  -- against a file that is not too long
+  of_short : (path bytes : List ℕ) (scoped : Bool) → is_scoped path ≡ scoped → (IsLong (Some bytes) → ⊥) → (answer : Status) × IsFirstOfFile path (Some bytes) answer
+  of_short path bytes true is short = (Refused (finding_of 0 Unbuilt), (short, (refl, ((λ _. (refl, refl)), λ not. absurd (cc (is, not))))))
+  of_short path bytes false is short =
+      elim (accepted_or_not bytes) [
+        | inl fine ↦ (Done, (short, (is, fine)))
+        | inr some ↦ (Refused (finding_of some.1 some.0), (short, (refl, ((λ yes. absurd (cc (is, yes))), λ _. some.2))))
+      ]
+
+  of_length : (path bytes : List ℕ) (long : Bool) → nat_lt 4194304 (length bytes) ≡ long → (answer : Status) × IsFirstOfFile path (Some bytes) answer
+  of_length path bytes true is = (Limit L2, grind (arith, is))
+  of_length path bytes false is = of_short path bytes (is_scoped path) refl (λ long. grind (arith, is, long))
+
+  of_file : (path : List ℕ) (found : Option (List ℕ)) → (answer : Status) × IsFirstOfFile path found answer
+  of_file path None = (Refused (finding_of 0 Missing), ((λ long. long), (refl, (refl, refl))))
+  of_file path (Some bytes) = of_length path bytes (nat_lt 4194304 (length bytes)) refl
+
+  some_first : (words : List (List ℕ)) (files : Names) → (answer : Status) × First words files answer
+  some_first words files = of_entry (entry_of words)
+    where
+      of_entry : (entry : Option (List ℕ)) → (answer : Status) × MatchOption entry (answer ≡ Usage Words) (λ path. IsFirstOfFile path (files path) answer)
+      of_entry None = (Usage Words, refl)
+      of_entry (Some path) = of_file path (files path)
+
+  same_finding : (a b : Finding) → a.place.file ≡ b.place.file → a.place.offset ≡ b.place.offset → a.code ≡ b.code → a ≡ b
+  same_finding a b file offset code = made a.place.file b.place.file a.place.offset b.place.offset a.code b.code file offset code
+    where
+      made : (e f o p : ℕ) (c d : Code) → e ≡ f → o ≡ p → c ≡ d → finding_at e o c ≡ finding_at f p d
+      made e f o p c d x y z = cc (x, y, z)
+
+  stands_one : (path : List ℕ) (found : Option (List ℕ)) (scoped : Bool) → is_scoped path ≡ scoped → (a b : Finding) → IsFirst path found a → IsFirst path found b → a ≡ b
+  stands_one path None scoped is a b p q = same_finding a b (p.0 ∙ sym q.0) (p.1.0 ∙ sym q.1.0) (p.1.1 ∙ sym q.1.1)
+  stands_one path (Some bytes) true is a b p q =
+      let x = p.1.0 is in
+      let y = q.1.0 is in
+      same_finding a b (p.0 ∙ sym q.0) (x.0 ∙ sym y.0) (x.1 ∙ sym y.1)
+  stands_one path (Some bytes) false is a b p q =
+      let same = laws.one bytes a.code b.code a.place.offset b.place.offset (p.1.1 is) (q.1.1 is) in
+      same_finding a b (p.0 ∙ sym q.0) same.1 same.0
+
+  fine_or_finding : (path : List ℕ) (found : Option (List ℕ)) (a : Finding) → IsFine path found → IsFirst path found a → ⊥
+  fine_or_finding path None a fine p = fine
+  fine_or_finding path (Some bytes) a fine p = laws.either bytes a.code a.place.offset fine.1 (p.1.1 fine.0)
+
+  of_file_one : (path : List ℕ) (found : Option (List ℕ)) (a b : Status) → IsFirstOfFile path found a → IsFirstOfFile path found b → a ≡ b
+  of_file_one path found (Usage k) b p q = absurd p
+  of_file_one path found ReadFault b p q = absurd p
+  of_file_one path found WriteFault b p q = absurd p
+  of_file_one path found Memory b p q = absurd p
+  of_file_one path found Done (Usage k) p q = absurd q
+  of_file_one path found Done ReadFault p q = absurd q
+  of_file_one path found Done WriteFault p q = absurd q
+  of_file_one path found Done Memory p q = absurd q
+  of_file_one path found Done Done p q = refl
+  of_file_one path found Done (Refused b) p q = absurd (fine_or_finding path found b p.1 q.1)
+  of_file_one path found Done (Limit L2) p q = absurd (p.0 q)
+  of_file_one path found (Refused a) (Usage k) p q = absurd q
+  of_file_one path found (Refused a) ReadFault p q = absurd q
+  of_file_one path found (Refused a) WriteFault p q = absurd q
+  of_file_one path found (Refused a) Memory p q = absurd q
+  of_file_one path found (Refused a) Done p q = absurd (fine_or_finding path found a q.1 p.1)
+  of_file_one path found (Refused a) (Refused b) p q = ap Refused (stands_one path found (is_scoped path) refl a b p.1 q.1)
+  of_file_one path found (Refused a) (Limit L2) p q = absurd (p.0 q)
+  of_file_one path found (Limit L2) (Usage k) p q = absurd q
+  of_file_one path found (Limit L2) ReadFault p q = absurd q
+  of_file_one path found (Limit L2) WriteFault p q = absurd q
+  of_file_one path found (Limit L2) Memory p q = absurd q
+  of_file_one path found (Limit L2) Done p q = absurd (q.0 p)
+  of_file_one path found (Limit L2) (Refused b) p q = absurd (q.0 p)
+  of_file_one path found (Limit L2) (Limit L2) p q = refl
+
+  first_one : (words : List (List ℕ)) (files : Names) (a b : Status) → First words files a → First words files b → a ≡ b
+  first_one words files a b p q = of_entry (entry_of words) p q
+    where
+      of_entry : (entry : Option (List ℕ)) → MatchOption entry (a ≡ Usage Words) (λ path. IsFirstOfFile path (files path) a) → MatchOption entry (b ≡ Usage Words) (λ path. IsFirstOfFile path (files path) b) → a ≡ b
+      of_entry None x y = x ∙ sym y
+      of_entry (Some path) x y = of_file_one path (files path) a b x y
+
+  pub has_first : (words : List (List ℕ)) (files : Names) → HasFirst words files
+  has_first words files = record { some = some_first words files; one = first_one words files }

@@ -1,0 +1,7 @@
+use Rattle.csslower.proofs.FirstAnswers.{AnswerLaws, has_first}
+use Rattle.csslower.proofs.laws.first_answer.Goals as goal
+
+pub returns : goal.returns
+returns c =
+    let laws : AnswerLaws = record { read = c.some_reading.ensures; paired = c.some_pairing.ensures.either; components = c.some_pairing.ensures.components; one = c.one_finding.ensures.one; either = c.one_finding.ensures.either } in
+    has_first laws
