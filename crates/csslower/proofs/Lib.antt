@@ -4,5 +4,4 @@ mod Loads
 mod Printing
 mod Plain
 mod TextFaults
-mod OneFault
 mod OneFinding
