@@ -24,7 +24,7 @@ abbrev verdict_next : Option (List (List ℕ)) → ℕ → (List (List ℕ) → 
 verdict_next None at go = mismatch at
 verdict_next (Some next) at go = cond (leb (length next) 64) (go next) (deep at)
 
-abbrev verdict : List (List ℕ) → List Piece → Verdict
+abbrev pub verdict : List (List ℕ) → List Piece → Verdict
 verdict waiting [] = verdict_end waiting
 verdict waiting (t ∷ ts) = verdict_next (awaited_next waiting t) t.at (λ next. verdict next ts)
 

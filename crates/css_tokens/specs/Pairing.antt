@@ -1,5 +1,7 @@
 -- How closing tokens match opening ones (CSS Syntax 3, section 5), told by the tokens alone.
-use Rattle.std.specs.Prelude.{ℕ, ◌≡◌, ◌≤◌, List, [], ◌∷◌, ◌++◌, length, take, Option, Some, None, if◌then◌else◌, option_and_then, unwrap_or, Bool, true, ◌&&◌, nat_le, nat_lt}
+use Rattle.std.specs.Prelude.{ℕ, ◌≡◌, ◌⊎◌, ◌≤◌, List, [], ◌∷◌, ◌++◌, length, take, Option, Some, None, if◌then◌else◌, option_and_then, unwrap_or, Bool, true, ◌&&◌, nat_le, nat_lt}
+use Rattle.css_tokens.specs.declared.pairing.ComponentFault.{ComponentFault}
+use Rattle.css_tokens.specs.declared.pairing.ComponentFault.TheVariants.{Syntax, Depth, Memory}
 use Rattle.css_tokens.specs.Piece.{Piece}
 use Rattle.css_tokens.specs.Trees.{opens, closes, closing_text, is_text}
 
@@ -63,6 +65,12 @@ pub record IsUnclosed (ts : List Piece) (end at : ℕ) : Type 0 where
   pub unclosed : awaited ts ≡ Some (innermost ∷ outer)
   pub shallow : IsShallow ts
   pub place : at ≡ end
+
+-- the brackets of these tokens have this fault, where the text ends at end; want of memory is no such fault
+abbrev pub IsBracketFault : List Piece → ℕ → ComponentFault → Type 0
+IsBracketFault ts end (Syntax at) = IsMismatch ts at ⊎ IsUnclosed ts end at
+IsBracketFault ts end (Depth at) = IsTooDeep ts at
+IsBracketFault ts end Memory = ⊥
 
 -- do the places of the tokens rise, and is none greater than end?
 abbrev pub places_rise : List Piece → ℕ → Bool

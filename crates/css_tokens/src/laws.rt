@@ -4,9 +4,10 @@ ghost use Rattle.std.specs.Str.{str_to_ascii_lowercase};
 ghost use Rattle.css_tokens.specs.declared.component.Component.{Component};
 ghost use Rattle.css_tokens.specs.declared.class.Class.TheVariants as class;
 ghost use Rattle.css_tokens.specs.declared.kind.Kind.TheVariants as kind;
+ghost use Rattle.css_tokens.specs.declared.pairing.ComponentFault.{ComponentFault};
 ghost use Rattle.css_tokens.specs.Again.{StaysFirst, Alike, KeepsQuote, is_solid, is_stop, is_end_kind, word_from, marks, begins_none, after_ident, after_name, digit, digit_or_dot};
 ghost use Rattle.css_tokens.specs.Characters.{name, white};
-ghost use Rattle.css_tokens.specs.Pairing.{IsMismatch, IsTooDeep, IsUnclosed, places_rise};
+ghost use Rattle.css_tokens.specs.Pairing.{IsBracketFault, IsMismatch, IsPaired, IsTooDeep, IsUnclosed, places_rise};
 ghost use Rattle.css_tokens.specs.Piece.{Piece, Word, spelled, word_of};
 ghost use Rattle.css_tokens.specs.PlainNames.{is_plain_name};
 ghost use Rattle.css_tokens.specs.Tokens.{First, IsPlaced, Reads, ReadsTo, StopsAt, classes_of, is_plain, is_url, quote_follows, spells};
@@ -19,6 +20,12 @@ pub fn one_reading()
     ensures place { (t : List ℕ) (o p : ℕ) → StopsAt t o → StopsAt t p → o ≡ p }
     ensures either { (t : List ℕ) (ws : List Word) (o : ℕ) → Reads t ws → StopsAt t o → ⊥ }
     ensures within { (t : List ℕ) (o : ℕ) → StopsAt t o → o ≤ length t }
+{}
+
+/// Tokens have at most one fault of brackets, and none where their brackets are paired.
+pub fn one_bracket_fault()
+    ensures one { (ts : List Piece) (end : ℕ) (f g : ComponentFault) → IsBracketFault ts end f → IsBracketFault ts end g → f ≡ g }
+    ensures either { (ts : List Piece) (end : ℕ) (f : ComponentFault) → IsPaired ts → IsBracketFault ts end f → ⊥ }
 {}
 
 /// The places of the tokens of a text rise and lie within it, and so do the places of faults of brackets.

@@ -4,6 +4,5 @@ mod Loads
 mod Printing
 mod Plain
 mod TextFaults
-mod OneFault
 mod OneFinding
 mod FirstAnswers

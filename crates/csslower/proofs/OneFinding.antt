@@ -3,6 +3,9 @@ use Rattle.std.proofs.Common.{◌≡◌, ℕ, ◌+◌, List, [], ◌∷◌, Opti
 use Rattle.std.specs.List.{position}
 use Rattle.css_tokens.specs.declared.component.Component.{Component}
 use Rattle.css_tokens.specs.declared.kind.Kind.{Kind}
+use Rattle.css_tokens.specs.declared.pairing.ComponentFault.{ComponentFault}
+use Rattle.css_tokens.specs.declared.pairing.ComponentFault.TheVariants as fault
+use Rattle.css_tokens.specs.Pairing.{IsPaired, IsBracketFault}
 use Rattle.css_tokens.specs.Piece.{Piece, Word, word_of}
 use Rattle.css_tokens.specs.Tokens.{Reads, IsPlaced, StopsAt}
 use Rattle.css_tokens.specs.Trees.{pieces_all, all_formed}
@@ -10,14 +13,15 @@ use Rattle.css_rules.specs.Refusals.{first_refusal}
 use Rattle.css_rules.specs.Sheets.{sheet_refusals}
 use Rattle.cascade_spec.specs.declared.finding.Code.{Code}
 use Rattle.cascade_spec.specs.declared.finding.Code.TheVariants.{Syntax, Depth, Missing, Unbuilt}
-use Rattle.csslower.specs.Findings.{is_unbuilt, HasTokens, HasComponents, IsBracketFault, IsRefused, HasReadingFinding, HasFinding, IsReadable, IsAccepted}
-use Rattle.csslower.proofs.OneFault.{fault_one, fault_none}
+use Rattle.csslower.specs.Findings.{is_unbuilt, HasTokens, HasComponents, IsUnpaired, IsRefused, HasReadingFinding, HasFinding, IsReadable, IsAccepted}
 
--- what the laws of tokens and components say
+-- what the laws of tokens, brackets and components say
 pub record ReadingLaws : Type 0 where
   pub one : (t : List ℕ) (a b : List Word) → Reads t a → Reads t b → a ≡ b
   pub place : (t : List ℕ) (o p : ℕ) → StopsAt t o → StopsAt t p → o ≡ p
   pub either : (t : List ℕ) (ws : List Word) (o : ℕ) → Reads t ws → StopsAt t o → ⊥
+  pub brackets : (ts : List Piece) (end : ℕ) (f g : ComponentFault) → IsBracketFault ts end f → IsBracketFault ts end g → f ≡ g
+  pub paired : (ts : List Piece) (end : ℕ) (f : ComponentFault) → IsPaired ts → IsBracketFault ts end f → ⊥
   pub pairing : (a b : List Component) → pieces_all a ≡ pieces_all b → IsTrue (all_formed a) → IsTrue (all_formed b) → a ≡ b
 
 abbrev piece : Kind → List ℕ → ℕ → Piece
@@ -69,8 +73,29 @@ module _ (laws : ReadingLaws) (bytes : List ℕ) where
   stop_none : (a : List Piece) (o : ℕ) → HasTokens bytes a → StopsAt bytes o → ⊥
   stop_none a o p s = laws.either bytes (map word_of a) o p.read s
 
-  fault_or_components : (ts : List Piece) (cs : List Component) (c : Code) (o : ℕ) → HasTokens bytes ts → IsBracketFault ts (length bytes) c o → HasComponents bytes cs → ⊥
-  fault_or_components ts cs c o p fault q = fault_none (pieces_all cs) (length bytes) c o q.paired (subst (λ us. IsBracketFault us (length bytes) c o) (tokens_one ts (pieces_all cs) p q.tokens) fault)
+  same_fault : (ts : List Piece) (f g : ComponentFault) → IsBracketFault ts (length bytes) f → IsBracketFault ts (length bytes) g → f ≡ g
+  same_fault ts f g a b = laws.brackets ts (length bytes) f g a b
+
+  unpaired_one : (ts : List Piece) (c d : Code) (o p : ℕ) → IsUnpaired ts (length bytes) c o → IsUnpaired ts (length bytes) d p → IsSame c d o p
+  unpaired_one ts Syntax Syntax o p a b = (refl, (let e = same_fault ts (fault.Syntax o) (fault.Syntax p) a b in cc e))
+  unpaired_one ts Syntax Depth o p a b = absurd (let e = same_fault ts (fault.Syntax o) (fault.Depth p) a b in cc e)
+  unpaired_one ts Depth Syntax o p a b = absurd (let e = same_fault ts (fault.Depth o) (fault.Syntax p) a b in cc e)
+  unpaired_one ts Depth Depth o p a b = (refl, (let e = same_fault ts (fault.Depth o) (fault.Depth p) a b in cc e))
+  unpaired_one ts Syntax Missing o p a b = absurd b
+  unpaired_one ts Syntax Unbuilt o p a b = absurd b
+  unpaired_one ts Depth Missing o p a b = absurd b
+  unpaired_one ts Depth Unbuilt o p a b = absurd b
+  unpaired_one ts Missing d o p a b = absurd a
+  unpaired_one ts Unbuilt d o p a b = absurd a
+
+  unpaired_none : (ts : List Piece) (c : Code) (o : ℕ) → IsPaired ts → IsUnpaired ts (length bytes) c o → ⊥
+  unpaired_none ts Syntax o p a = laws.paired ts (length bytes) (fault.Syntax o) p a
+  unpaired_none ts Depth o p a = laws.paired ts (length bytes) (fault.Depth o) p a
+  unpaired_none ts Missing o p a = a
+  unpaired_none ts Unbuilt o p a = a
+
+  fault_or_components : (ts : List Piece) (cs : List Component) (c : Code) (o : ℕ) → HasTokens bytes ts → IsUnpaired ts (length bytes) c o → HasComponents bytes cs → ⊥
+  fault_or_components ts cs c o p unpaired q = unpaired_none (pieces_all cs) c o q.paired (subst (λ us. IsUnpaired us (length bytes) c o) (tokens_one ts (pieces_all cs) p q.tokens) unpaired)
 
   reading_one : (c d : Code) (o p : ℕ) → HasReadingFinding bytes c o → HasReadingFinding bytes d p → IsSame c d o p
   reading_one c d o p (inl a) (inl b) = (a.0 ∙ sym b.0, laws.place bytes o p a.1 b.1)
@@ -78,7 +103,7 @@ module _ (laws : ReadingLaws) (bytes : List ℕ) where
   reading_one c d o p (inl a) (inr (inr b)) = absurd (stop_none (pieces_all b.0) o b.1.tokens a.1)
   reading_one c d o p (inr (inl a)) (inl b) = absurd (stop_none a.0 p a.1 b.1)
   reading_one c d o p (inr (inr a)) (inl b) = absurd (stop_none (pieces_all a.0) p a.1.tokens b.1)
-  reading_one c d o p (inr (inl a)) (inr (inl b)) = fault_one b.0 (length bytes) c d o p (subst (λ us. IsBracketFault us (length bytes) c o) (tokens_one a.0 b.0 a.1 b.1) a.2) b.2
+  reading_one c d o p (inr (inl a)) (inr (inl b)) = unpaired_one b.0 c d o p (subst (λ us. IsUnpaired us (length bytes) c o) (tokens_one a.0 b.0 a.1 b.1) a.2) b.2
   reading_one c d o p (inr (inl a)) (inr (inr b)) = absurd (fault_or_components a.0 b.0 c o a.1 a.2 b.1)
   reading_one c d o p (inr (inr a)) (inr (inl b)) = absurd (fault_or_components b.0 a.0 d p b.1 b.2 a.1)
   reading_one c d o p (inr (inr a)) (inr (inr b)) = refused_one b.0 c d o p (subst (λ cs. IsRefused cs c o) (components_one a.0 b.0 a.1 b.1) a.2) b.2

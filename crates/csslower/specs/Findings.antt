@@ -3,7 +3,8 @@
 use Rattle.std.specs.Prelude.{ℕ, ◌≡◌, ◌⊎◌, ◌≤◌, List, [], length, map, IsTrue, Bool, ◌&&◌, not, Some, None, MatchOption, nat_lt, nat_eq}
 use Rattle.std.specs.List.{position}
 use Rattle.css_tokens.specs.declared.component.Component.{Component}
-use Rattle.css_tokens.specs.Pairing.{IsPaired, IsMismatch, IsUnclosed, IsTooDeep}
+use Rattle.css_tokens.specs.declared.pairing.ComponentFault.TheVariants as fault
+use Rattle.css_tokens.specs.Pairing.{IsPaired, IsBracketFault}
 use Rattle.css_tokens.specs.Piece.{Piece, word_of}
 use Rattle.css_tokens.specs.Tokens.{Reads, IsPlaced, StopsAt}
 use Rattle.css_tokens.specs.Trees.{pieces_all, all_formed}
@@ -35,14 +36,14 @@ abbrev pub HasStop : List ℕ → Code → ℕ → Type 0
 HasStop bytes code offset = (code ≡ Syntax) × StopsAt bytes offset
 
 -- a bracket does not match, or is open at the end, or is nested too deep
-abbrev pub IsBracketFault : List Piece → ℕ → Code → ℕ → Type 0
-IsBracketFault tokens end Syntax offset = IsMismatch tokens offset ⊎ IsUnclosed tokens end offset
-IsBracketFault tokens end Depth offset = IsTooDeep tokens offset
-IsBracketFault tokens end Missing offset = ⊥
-IsBracketFault tokens end Unbuilt offset = ⊥
+abbrev pub IsUnpaired : List Piece → ℕ → Code → ℕ → Type 0
+IsUnpaired tokens end Syntax offset = IsBracketFault tokens end (fault.Syntax offset)
+IsUnpaired tokens end Depth offset = IsBracketFault tokens end (fault.Depth offset)
+IsUnpaired tokens end Missing offset = ⊥
+IsUnpaired tokens end Unbuilt offset = ⊥
 
 abbrev pub HasBracketFault : List ℕ → Code → ℕ → Type 0
-HasBracketFault bytes code offset = (tokens : List Piece) × HasTokens bytes tokens × IsBracketFault tokens (length bytes) code offset
+HasBracketFault bytes code offset = (tokens : List Piece) × HasTokens bytes tokens × IsUnpaired tokens (length bytes) code offset
 
 -- the sheet is refused there
 abbrev pub IsRefused : List Component → Code → ℕ → Type 0

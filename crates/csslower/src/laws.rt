@@ -12,6 +12,7 @@ pub fn one_finding()
     ensures either { (bytes : List ℕ) (c : Code) (o : ℕ) → IsAccepted bytes → HasFinding bytes c o → ⊥ }
 {
     css_tokens::one_reading();
+    css_tokens::one_bracket_fault();
     css_tokens::one_pairing();
 }
 

@@ -1,24 +1,7 @@
-ghost use Rattle.std.specs.Prelude.{◌≡◌};
-ghost use Rattle.css_tokens.specs.Pairing.{places_rise};
-
 use crate::{Declaration, Item, RuleFault, Sheet, read_sheet};
-use css_tokens::{Token, components, is_plain_text, tokens};
+use css_tokens::{components, is_plain_text, places_rise_in_a_text, tokens};
 use std::alloc::Global;
 use std::test::Fail;
-
-/// Whether each token stands behind the one before it, the last not behind the end.
-fn rises(tokens: &[Token], end: u32) -> bool
-    ensures { result ≡ places_rise tokens.now end }
-{
-    match tokens {
-        [] => true,
-        [last] => last.at <= end,
-        [first, rest @ ..] => match rest.first() {
-            Some(second) => first.at < second.at && rises(rest, end),
-            None => false,
-        },
-    }
-}
 
 /// The sheet of a short text whose brackets pair.
 fn read(alloc: Global, text: &str) -> Result<Sheet<'_>, RuleFault> {
@@ -30,9 +13,7 @@ fn read(alloc: Global, text: &str) -> Result<Sheet<'_>, RuleFault> {
     let Ok(list) = tokens(alloc, bytes) else {
         return Err(RuleFault::Memory);
     };
-    if !rises(list.as_slice(), end) {
-        return Err(RuleFault::Memory);
-    }
+    places_rise_in_a_text();
     match components(alloc, list.as_slice(), end) {
         Ok(parts) => read_sheet(alloc, parts.as_slice(), end),
         Err(_) => Err(RuleFault::Memory),

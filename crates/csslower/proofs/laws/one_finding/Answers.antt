@@ -4,7 +4,15 @@ use Rattle.csslower.proofs.laws.one_finding.Goals as goal
 pub returns : goal.returns
 returns c =
     let reading = c.one_reading.ensures in
-    let laws : ReadingLaws = record { one = reading.one; place = reading.place; either = reading.either; pairing = c.one_pairing.ensures } in
+    let brackets = c.one_bracket_fault.ensures in
+    let laws : ReadingLaws = record {
+      one = reading.one;
+      place = reading.place;
+      either = reading.either;
+      brackets = brackets.one;
+      paired = brackets.either;
+      pairing = c.one_pairing.ensures;
+    } in
     record {
       one = finding_one laws;
       either = finding_none laws;
