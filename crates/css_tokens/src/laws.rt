@@ -1,4 +1,4 @@
-ghost use Rattle.std.specs.Prelude.{ℕ, List, ◌∷◌, [], ◌++◌, ◌≡◌, ◌≢◌, ◌≤◌, IsTrue, true, false, codes, length, map};
+ghost use Rattle.std.specs.Prelude.{ℕ, List, ◌∷◌, [], ◌++◌, ◌≡◌, ◌≢◌, ◌≤◌, ◌⊎◌, IsTrue, true, false, codes, length, map};
 ghost use Rattle.std.specs.List.{AllByRecursion, list_all};
 ghost use Rattle.std.specs.Str.{str_to_ascii_lowercase};
 ghost use Rattle.css_tokens.specs.declared.component.Component.{Component};
@@ -19,6 +19,11 @@ pub fn one_reading()
     ensures place { (t : List ℕ) (o p : ℕ) → StopsAt t o → StopsAt t p → o ≡ p }
     ensures either { (t : List ℕ) (ws : List Word) (o : ℕ) → Reads t ws → StopsAt t o → ⊥ }
     ensures within { (t : List ℕ) (o : ℕ) → StopsAt t o → o ≤ length t }
+{}
+
+/// Every text has a reading, or a place where it has none.
+pub fn some_reading()
+    ensures { (t : List ℕ) → ((ws : List Word) × Reads t ws) ⊎ ((o : ℕ) × StopsAt t o) }
 {}
 
 /// The places of the tokens of a text rise and lie within it, and so do the places of faults of brackets.
