@@ -6,11 +6,11 @@ ghost use Rattle.css_tokens.specs.declared.class.Class.TheVariants as class;
 ghost use Rattle.css_tokens.specs.declared.kind.Kind.TheVariants as kind;
 ghost use Rattle.css_tokens.specs.Again.{StaysFirst, Alike, KeepsQuote, is_solid, is_stop, is_end_kind, word_from, marks, begins_none, after_ident, after_name, digit, digit_or_dot};
 ghost use Rattle.css_tokens.specs.Characters.{name, white};
-ghost use Rattle.css_tokens.specs.Pairing.{IsMismatch, IsTooDeep, IsUnclosed, places_rise};
+ghost use Rattle.css_tokens.specs.Pairing.{IsMismatch, IsPaired, IsTooDeep, IsUnclosed, places_rise};
 ghost use Rattle.css_tokens.specs.Piece.{Piece, Word, spelled, word_of};
 ghost use Rattle.css_tokens.specs.PlainNames.{is_plain_name};
 ghost use Rattle.css_tokens.specs.Tokens.{First, IsPlaced, Reads, ReadsTo, StopsAt, classes_of, is_plain, is_url, quote_follows, spells};
-ghost use Rattle.css_tokens.specs.Trees.{words_all, all_formed, is_text};
+ghost use Rattle.css_tokens.specs.Trees.{words_all, all_formed, is_text, pieces_all};
 ghost use Rattle.css_tokens.specs.Values.{is_gap, value_words, value_text};
 
 /// A text reads in at most one way, or has a fault at one place within it, and never both.
@@ -24,6 +24,12 @@ pub fn one_reading()
 /// Every text has a reading, or a place where it has none.
 pub fn some_reading()
     ensures { (t : List ℕ) → ((ws : List Word) × Reads t ws) ⊎ ((o : ℕ) × StopsAt t o) }
+{}
+
+/// Tokens are paired, or have a fault of brackets; and tokens that are paired make components.
+pub fn some_pairing()
+    ensures either { (ts : List Piece) (end : ℕ) → IsPaired ts ⊎ ((o : ℕ) × (IsMismatch ts o ⊎ (IsUnclosed ts end o ⊎ IsTooDeep ts o))) }
+    ensures components { (ts : List Piece) → IsPaired ts → (cs : List Component) × (pieces_all cs ≡ ts) × IsTrue (all_formed cs) }
 {}
 
 /// The places of the tokens of a text rise and lie within it, and so do the places of faults of brackets.
