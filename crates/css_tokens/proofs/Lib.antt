@@ -17,6 +17,8 @@ pub mod PlainNameLemmas
 pub mod PrintedAgain
 pub mod Rebuilt
 pub mod SingleGaps
+pub mod SomePairing
+pub mod SomeReading
 pub mod TreeInduction
 pub mod ValueLemmas
 pub mod Verdicts

@@ -18,7 +18,7 @@ is_close : (k : Kind) → closes k ≡ true → k ≡ Close
 is_close Close e = refl
 is_close _ e = cc
 
-closing_is : (t opening : Piece) → closes t.kind ≡ true → t.text ≡ closing_text opening.text → closing opening t.at ≡ t
+pub closing_is : (t opening : Piece) → closes t.kind ≡ true → t.text ≡ closing_text opening.text → closing opening t.at ≡ t
 closing_is t opening k e = λ i. record { kind = sym (is_close t.kind k) i; text = sym e i; at = t.at }
 
 regrouped : (a b c d : Bool) → ((a && ((b && c) && true)) && d) ≡ true → (a && (c && ((b && d) && true))) ≡ true

@@ -8,22 +8,22 @@ use Rattle.css_tokens.specs.Trees.{opens, closes, closing, pieces_of, pieces_all
 use Rattle.css_tokens.proofs.TreeInduction.{Each, by_trees}
 
 -- the open blocks, the innermost first, each with what stands before it, and what stands in the innermost
-record Half : Type 0 where
-  outer : List (List Component × Piece)
-  items : List Component
+pub record Half : Type 0 where
+  pub outer : List (List Component × Piece)
+  pub items : List Component
 
-abbrev close_half : List (List Component × Piece) → List Component → ℕ → Half
+abbrev pub close_half : List (List Component × Piece) → List Component → ℕ → Half
 close_half [] items at = record { outer = []; items = items }
 close_half (o ∷ outer) items at = record { outer = outer; items = o.0 ++ component.Block (record { opening = o.1; items = items; close = at }) ∷ [] }
 
-abbrev step : Half → Piece → Half
+abbrev pub step : Half → Piece → Half
 step h t = if opens t.kind then record { outer = (h.items, t) ∷ h.outer; items = [] } else (if closes t.kind then close_half h.outer h.items t.at else record { outer = h.outer; items = h.items ++ component.Single t ∷ [] })
 
 abbrev run : Half → List Piece → Half
 run h [] = h
 run h (t ∷ ts) = run (step h t) ts
 
-abbrev put : Half → List Component → Half
+abbrev pub put : Half → List Component → Half
 put h cs = record { outer = h.outer; items = h.items ++ cs }
 
 abbrev IsRebuilt : Component → Type 0

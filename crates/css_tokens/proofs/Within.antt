@@ -20,7 +20,7 @@ pub stops_within : (t : List ℕ) (o : ℕ) → StopsAt t o → o ≤ length t
 stops_within t o h = stops_by t (position is_control t) o refl h
 
 -- a first token is not empty
-first_some : (t : List ℕ) (w : Word) → First t w → 0 < length w.text
+pub first_some : (t : List ℕ) (w : Word) → First t w → 0 < length w.text
 first_some [] w h = cc
 first_some (b ∷ t) w h =
     let m = mapped (word (b ∷ t)) (first_front (b ∷ t)) w h in

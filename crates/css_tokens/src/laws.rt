@@ -1,4 +1,4 @@
-ghost use Rattle.std.specs.Prelude.{ℕ, List, ◌∷◌, [], ◌++◌, ◌≡◌, ◌≢◌, ◌≤◌, IsTrue, true, false, codes, length, map};
+ghost use Rattle.std.specs.Prelude.{ℕ, List, ◌∷◌, [], ◌++◌, ◌≡◌, ◌≢◌, ◌≤◌, ◌⊎◌, IsTrue, true, false, codes, length, map};
 ghost use Rattle.std.specs.List.{AllByRecursion, list_all};
 ghost use Rattle.std.specs.Str.{str_to_ascii_lowercase};
 ghost use Rattle.css_tokens.specs.declared.component.Component.{Component};
@@ -11,7 +11,7 @@ ghost use Rattle.css_tokens.specs.Pairing.{IsBracketFault, IsMismatch, IsPaired,
 ghost use Rattle.css_tokens.specs.Piece.{Piece, Word, spelled, word_of};
 ghost use Rattle.css_tokens.specs.PlainNames.{is_plain_name};
 ghost use Rattle.css_tokens.specs.Tokens.{First, IsPlaced, Reads, ReadsTo, StopsAt, classes_of, is_plain, is_url, quote_follows, spells};
-ghost use Rattle.css_tokens.specs.Trees.{words_all, all_formed, is_text};
+ghost use Rattle.css_tokens.specs.Trees.{words_all, all_formed, is_text, pieces_all};
 ghost use Rattle.css_tokens.specs.Values.{is_gap, value_words, value_text};
 
 /// A text reads in at most one way, or has a fault at one place within it, and never both.
@@ -26,6 +26,17 @@ pub fn one_reading()
 pub fn one_bracket_fault()
     ensures one { (ts : List Piece) (end : ℕ) (f g : ComponentFault) → IsBracketFault ts end f → IsBracketFault ts end g → f ≡ g }
     ensures either { (ts : List Piece) (end : ℕ) (f : ComponentFault) → IsPaired ts → IsBracketFault ts end f → ⊥ }
+{}
+
+/// Every text has a reading, or a place where it has none.
+pub fn some_reading()
+    ensures { (t : List ℕ) → ((ws : List Word) × Reads t ws) ⊎ ((o : ℕ) × StopsAt t o) }
+{}
+
+/// Tokens are paired, or have a fault of brackets; and tokens that are paired make components.
+pub fn some_pairing()
+    ensures either { (ts : List Piece) (end : ℕ) → IsPaired ts ⊎ ((f : ComponentFault) × IsBracketFault ts end f) }
+    ensures components { (ts : List Piece) → IsPaired ts → (cs : List Component) × (pieces_all cs ≡ ts) × IsTrue (all_formed cs) }
 {}
 
 /// The places of the tokens of a text rise and lie within it, and so do the places of faults of brackets.

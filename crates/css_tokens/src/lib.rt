@@ -22,8 +22,8 @@ mod value;
 pub use component::{Block, Component, copy_all};
 pub use kind::Kind;
 pub use laws::{
-    names_spell, names_stay, one_bracket_fault, one_reading, places_rise_in_a_text, values_again,
-    words_again,
+    names_spell, names_stay, one_bracket_fault, one_reading, places_rise_in_a_text, some_pairing,
+    some_reading, values_again, words_again,
 };
 pub use list::List;
 pub use memory::OutOfMemory;

@@ -3,7 +3,9 @@ use Rattle.std.proofs.Common.{◌≡◌, ℕ, ◌+◌, ◌<◌, List, [], ◌∷
 use Rattle.std.specs.List.{position}
 use Rattle.css_outside.specs.Names.{Names}
 use Rattle.css_tokens.specs.declared.component.Component.{Component}
-use Rattle.css_tokens.specs.Pairing.{IsPaired, IsMismatch, IsUnclosed, IsTooDeep}
+use Rattle.css_tokens.specs.declared.pairing.ComponentFault.{ComponentFault}
+use Rattle.css_tokens.specs.declared.pairing.ComponentFault.TheVariants as fault
+use Rattle.css_tokens.specs.Pairing.{IsPaired, IsBracketFault}
 use Rattle.css_tokens.specs.Piece.{Piece, Word, word_of}
 use Rattle.css_tokens.specs.Tokens.{Reads, IsPlaced, StopsAt}
 use Rattle.css_tokens.specs.Trees.{pieces_all, all_formed}
@@ -16,7 +18,7 @@ use Rattle.cascade_spec.specs.declared.finding.Code.TheVariants.{Syntax, Depth, 
 use Rattle.cascade_spec.specs.declared.finding.Finding.{Finding}
 use Rattle.cascade_spec.specs.declared.finding.LimitKind.TheVariants.{L2}
 use Rattle.csslower.specs.Answers.{IsLong, IsFirst, IsFine, IsFirstOfFile, First, HasFirst}
-use Rattle.csslower.specs.Findings.{is_unbuilt, HasTokens, HasComponents, IsBracketFault, IsReadable, IsAccepted, HasFinding, HasReadingFinding}
+use Rattle.csslower.specs.Findings.{is_unbuilt, HasTokens, HasComponents, IsReadable, IsAccepted, HasFinding, HasReadingFinding}
 use Rattle.csslower.specs.Words.{entry_of, is_scoped}
 use Rattle.csslower.specs.declared.status.Status.{Status}
 use Rattle.csslower.specs.declared.status.Status.TheVariants.{Done, Refused, Usage, ReadFault, WriteFault, Memory, Limit}
@@ -25,7 +27,7 @@ use Rattle.csslower.specs.declared.status.WordKind.TheVariants.{Words}
 -- what the laws of tokens, components and findings say
 pub record AnswerLaws : Type 0 where
   pub read : (t : List ℕ) → ((ws : List Word) × Reads t ws) ⊎ ((o : ℕ) × StopsAt t o)
-  pub paired : (ts : List Piece) (end : ℕ) → IsPaired ts ⊎ ((o : ℕ) × (IsMismatch ts o ⊎ (IsUnclosed ts end o ⊎ IsTooDeep ts o)))
+  pub paired : (ts : List Piece) (end : ℕ) → IsPaired ts ⊎ ((f : ComponentFault) × IsBracketFault ts end f)
   pub components : (ts : List Piece) → IsPaired ts → (cs : List Component) × (pieces_all cs ≡ ts) × IsTrue (all_formed cs)
   pub one : (bytes : List ℕ) (c d : Code) (o p : ℕ) → HasFinding bytes c o → HasFinding bytes d p → (c ≡ d) × (o ≡ p)
   pub either : (bytes : List ℕ) (c : Code) (o : ℕ) → IsAccepted bytes → HasFinding bytes c o → ⊥
@@ -74,10 +76,10 @@ module _ (laws : AnswerLaws) where
       let made = laws.components ts paired in
       of_components bytes made.0 (record { tokens = subst (HasTokens bytes) (sym made.1) has; formed = made.2; paired = subst IsPaired (sym made.1) paired })
 
-  of_fault : (bytes : List ℕ) (ts : List Piece) → HasTokens bytes ts → (o : ℕ) → IsMismatch ts o ⊎ (IsUnclosed ts (length bytes) o ⊎ IsTooDeep ts o) → HasSomeFinding bytes
-  of_fault bytes ts has o (inl fault) = (Syntax, o, inr (inl (ts, has, inl fault)))
-  of_fault bytes ts has o (inr (inl fault)) = (Syntax, o, inr (inl (ts, has, inr fault)))
-  of_fault bytes ts has o (inr (inr fault)) = (Depth, o, inr (inl (ts, has, fault)))
+  of_fault : (bytes : List ℕ) (ts : List Piece) → HasTokens bytes ts → (f : ComponentFault) → IsBracketFault ts (length bytes) f → HasSomeFinding bytes
+  of_fault bytes ts has (fault.Syntax at) is = (Syntax, at, inr (inl (ts, has, is)))
+  of_fault bytes ts has (fault.Depth at) is = (Depth, at, inr (inl (ts, has, is)))
+  of_fault bytes ts has fault.Memory is = absurd is
 
   of_tokens : (bytes : List ℕ) (ts : List Piece) → HasTokens bytes ts → IsReadable bytes ⊎ HasSomeFinding bytes
   of_tokens bytes ts has =

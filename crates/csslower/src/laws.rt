@@ -21,4 +21,6 @@ pub fn first_answer()
     ensures { (words : List (List ℕ)) (files : Names) → HasFirst words files }
 {
     one_finding();
+    css_tokens::some_reading();
+    css_tokens::some_pairing();
 }
