@@ -1,15 +1,17 @@
 -- The faults of a selector list stand in order.
-use Rattle.std.proofs.Common.{◌≡◌, ℕ, ◌≤◌, List, [], ◌∷◌, ◌++◌, Bool, true, false, sym, ◌∙◌, ap, subst, Option, Some, None, inl, inr, arith, nat_lt, IsTrue}
+use Rattle.std.proofs.Common.{◌≡◌, ℕ, ◌≤◌, List, [], ◌∷◌, ◌++◌, Bool, true, false, refl, sym, ◌∙◌, ap, subst, Option, Some, None, inl, inr, arith, nat_lt, IsTrue}
 use Rattle.std.specs.Prelude.{is_some, unwrap_or, if◌then◌else◌, not}
 use Rattle.std.specs.List.{AllByRecursion, find, filter_map, cons_option}
 use Rattle.std.specs.Option.{option_map}
 use Rattle.std.proofs.lemmas.Bool.{leb-true}
 use Rattle.std.proofs.lemmas.Bool.Decides.{nat_tests}
-use Rattle.css_tokens.specs.declared.component.Component.{Component}
+use Rattle.css_tokens.specs.declared.component.Component.{Component, out-Component}
+use Rattle.css_tokens.specs.declared.component.Component.TheOpen.{Single, Block}
 use Rattle.css_tokens.specs.declared.component.Component.TheVariants.{outs-Single, outs-Block}
 use Rattle.css_tokens.specs.Piece.{Piece}
 use Rattle.css_tokens.specs.Pairing.{places_rise}
 use Rattle.css_tokens.specs.Trees.{pieces_of, pieces_all, closing, pieces_of-Single, pieces_of-Block}
+use Rattle.css_rules.specs.Components.{Layer, head, layer_head}
 use Rattle.css_rules.specs.SelectorFaults.{first_of}
 use Rattle.css_rules.specs.Selectors.{Member, empty_before, with_component, cut_at_commas, selector_of, first_place, fault_of, list_faults}
 use Rattle.css_rules.specs.Signs.{place_of, open_place, is_comma, is_gap}
@@ -123,6 +125,36 @@ module _ (end : ℕ) where
       let same : place ≡ at = cc e in
       subst (λ n. AllByRecursion (λ other. n ≤ other) (place ∷ places)) same (omega arith, rising-each place places h.1)
 
+abbrev Least : ℕ → List Component → Type 0
+Least end cs = (at : ℕ) → first_of (list_faults cs end) ≡ Some at → AllByRecursion (λ other. at ≤ other) (list_faults cs end)
+
+parts-least : (end : ℕ) (cs : List Component) → PartsRise end 0 cs → Least end cs
+parts-least end cs h at e = first-least end 0 at (list_faults cs end) (faults-rise end 0 (cut_at_commas cs) (members-rise end 0 cs h)) e
+
 pub first_fault-least : (cs : List Component) (end at : ℕ) → IsTrue (places_rise (pieces_all cs) end) → first_of (list_faults cs end) ≡ Some at → AllByRecursion (λ other. at ≤ other) (list_faults cs end)
-first_fault-least cs end at h e =
-    first-least end 0 at (list_faults cs end) (faults-rise end 0 (cut_at_commas cs) (members-rise end 0 cs (parts-rise end 0 cs (tokens-rise end (pieces_all cs) h)))) e
+first_fault-least cs end at h e = parts-least end cs (parts-rise end 0 cs (tokens-rise end (pieces_all cs) h)) at e
+
+-- A prelude among components.
+
+parts-lower : (end low low' : ℕ) (cs : List Component) → low' ≤ low → PartsRise end low cs → PartsRise end low' cs
+parts-lower end low low' [] h k = omega arith
+parts-lower end low low' (c ∷ cs) h k = let first : low ≤ place_of c = k.0 in (omega arith, k.1)
+
+parts-behind : (end low : ℕ) (front cs : List Component) → PartsRise end low (front ++ cs) → PartsRise end low cs
+parts-behind end low [] cs h = h
+parts-behind end low (c ∷ front) cs h = parts-lower end (place_of c) low cs h.0 (parts-behind end (place_of c) front cs h.1)
+
+parts-before : (end low : ℕ) (cs : List Component) (block : Component) (behind : List Component) → PartsRise end low (cs ++ block ∷ behind) → PartsRise (place_of block) low cs
+parts-before end low [] block behind h = h.0
+parts-before end low (c ∷ cs) block behind h = (h.0, parts-before end (place_of c) cs block behind h.1)
+
+layer-place : (v : Layer) → open_place v ≡ (layer_head v).at
+layer-place (Single p) = refl
+layer-place (Block b) = refl
+
+pub first_fault-prelude : (front cs behind : List Component) (block : Component) (end at : ℕ) → IsTrue (places_rise (pieces_all (front ++ (cs ++ block ∷ behind))) end)
+    → first_of (list_faults cs (head block).at) ≡ Some at → AllByRecursion (λ other. at ≤ other) (list_faults cs (head block).at)
+first_fault-prelude front cs behind block end at h e =
+    let all = front ++ (cs ++ block ∷ behind) in
+    let rise = parts-behind end 0 front (cs ++ block ∷ behind) (parts-rise end 0 all (tokens-rise end (pieces_all all) h)) in
+    subst (λ stop. Least stop cs) (layer-place (out-Component block)) (parts-least (place_of block) cs (parts-before end 0 cs block behind rise)) at e
