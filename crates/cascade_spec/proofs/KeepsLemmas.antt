@@ -1,4 +1,4 @@
--- What is written from a sheet keeps the winners of its text.
+-- What is written from a sheet reads as it again, and so keeps the winners of its text.
 use Rattle.std.proofs.Common.{◌≡◌, ℕ, List, [], ◌∷◌, ◌++◌, map, Bool, true, false, ◌&&◌, not, Option, Some, None, refl, sym, ◌∙◌, ap, IsTrue, length, take, drop, nat_lt, nat_eq}
 use Rattle.std.specs.List.{list_all}
 use Rattle.std.specs.Option.{option_map}
@@ -19,7 +19,7 @@ use Rattle.css_rules.specs.SheetAgain.{sheet_again}
 use Rattle.css_rules.specs.SheetTexts.{sheet_text}
 use Rattle.css_rules.specs.Standing.{AllStand}
 use Rattle.cascade_spec.specs.Cascade.{winner}
-use Rattle.cascade_spec.specs.Readings.{ReadsAs, KeepsWinners}
+use Rattle.cascade_spec.specs.Readings.{ReadsAs, IsReadAgain, KeepsWinners}
 
 and_left : (a b : Bool) → (a && b) ≡ true → a ≡ true
 and_left true b e = refl
@@ -83,17 +83,24 @@ module _ (laws : SheetLaws) where
   pub one-sheet : (text : List ℕ) (a b : List Component) → ReadsAs text a → ReadsAs text b → bare_runs (sheet_of a) ≡ bare_runs (sheet_of b)
   one-sheet text a b p q = laws.places a b (laws.one text (words_all a) (words_all b) p.reads q.reads) p.formed q.formed
 
-  -- what is written from a sheet keeps the winners
-  pub keeps-winners : (source : List ℕ) (cs : List Component) → IsTrue (is_plain source) → ReadsAs source cs → KeepsWinners source (sheet_text (runs_of (sheet_of cs)))
-  keeps-winners source cs plain read =
+  -- what is written from a sheet reads as the sheet of its text
+  pub reads-again : (source : List ℕ) (cs : List Component) → IsTrue (is_plain source) → ReadsAs source cs → IsReadAgain source (sheet_text (runs_of (sheet_of cs)))
+  reads-again source cs plain read =
       let runs = runs_of (sheet_of cs) in
       let printable : ArePrintable runs = laws.printable cs read.faultless read.formed (words-spelled laws.names laws.first source (words_all cs) [] plain read.reads) in
       let stands : AllStand runs = laws.standing source cs read.reads read.formed read.faultless in
       let again : ReadsAs (sheet_text runs) (sheet_again runs) = record { reads = laws.reads runs printable stands; formed = laws.formed runs printable; faultless = laws.faultless runs printable } in
       record {
         readable = (sheet_of (sheet_again runs), (sheet_again runs, again, refl));
-        same = λ old new is_old is_new q.
-            ap (λ s. winner q (bare_runs s)) is_new.2
-            ∙ ap (winner q) (one-sheet (sheet_text runs) is_new.0 (sheet_again runs) is_new.1 again ∙ laws.same runs printable ∙ one-sheet source cs is_old.0 read is_old.1)
-            ∙ ap (λ s. winner q (bare_runs s)) (sym is_old.2);
+        same = λ old new is_old is_new.
+            ap bare_runs is_new.2
+            ∙ one-sheet (sheet_text runs) is_new.0 (sheet_again runs) is_new.1 again ∙ laws.same runs printable ∙ one-sheet source cs is_old.0 read is_old.1
+            ∙ ap bare_runs (sym is_old.2);
       }
+
+-- equal runs have equal winners
+pub again-keeps : (source written : List ℕ) → IsReadAgain source written → KeepsWinners source written
+again-keeps source written again = record {
+  readable = again.readable;
+  same = λ old new is_old is_new q. ap (winner q) (again.same old new is_old is_new);
+}

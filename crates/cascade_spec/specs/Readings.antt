@@ -1,4 +1,4 @@
--- What it is for a text to read as a sheet (CSS Syntax 3, section 5), and for another text to keep its winners.
+-- What it is for a text to read as a sheet (CSS Syntax 3, section 5), and for another text to read as the same one and to keep its winners.
 use Rattle.std.specs.Prelude.{ℕ, List, [], ◌≡◌, IsTrue}
 use Rattle.css_tokens.specs.declared.component.Component.{Component}
 use Rattle.css_tokens.specs.Tokens.{Reads}
@@ -17,6 +17,11 @@ pub record ReadsAs (text : List ℕ) (components : List Component) : Type 0 wher
 -- the text reads as this sheet, places aside
 abbrev pub HasSheet : List ℕ → Sheet → Type 0
 HasSheet text sheet = (components : List Component) × ReadsAs text components × (sheet ≡ sheet_of components)
+
+-- The one text reads as the sheet of the other, places, comments, the spelling of white space and empty rules aside, and it has a sheet.
+pub record IsReadAgain (source written : List ℕ) : Type 0 where
+  pub readable : (sheet : Sheet) × HasSheet written sheet
+  pub same : (old new : Sheet) → HasSheet source old → HasSheet written new → bare_runs new ≡ bare_runs old
 
 -- Under the sheet of the one text each winner is that under the sheet of the other, and it has one.
 pub record KeepsWinners (source written : List ℕ) : Type 0 where

@@ -9,11 +9,12 @@ ghost use Rattle.css_rules.specs.SheetTexts.{sheet_text};
 ghost use Rattle.css_rules.specs.declared.sheet.Sheet.{Sheet};
 ghost use Rattle.cascade_spec.specs.Layers.{LayerPath};
 ghost use Rattle.cascade_spec.specs.Cascade.{Shown, IsWinner, winning};
-ghost use Rattle.cascade_spec.specs.Readings.{ReadsAs, HasSheet, KeepsWinners};
+ghost use Rattle.cascade_spec.specs.Readings.{ReadsAs, HasSheet, IsReadAgain, KeepsWinners};
 
-/// The text that a sheet prints as keeps the winners of the text that the sheet was read from, and a text reads as one
-/// sheet, places aside.
+/// The text that a sheet prints as reads as the sheet of the text that the sheet was read from, and so keeps its winners,
+/// and a text reads as one sheet, places aside.
 pub fn sheets_keep_winners()
+    ensures again { (source : List ℕ) (cs : List Component) → IsTrue (is_plain source) → ReadsAs source cs → IsReadAgain source (sheet_text (runs_of (sheet_of cs))) }
     ensures kept { (source : List ℕ) (cs : List Component) → IsTrue (is_plain source) → ReadsAs source cs → KeepsWinners source (sheet_text (runs_of (sheet_of cs))) }
     ensures one { (text : List ℕ) (a b : Sheet) → HasSheet text a → HasSheet text b → bare_runs a ≡ bare_runs b }
 {

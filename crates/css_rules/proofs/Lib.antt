@@ -36,3 +36,5 @@ pub mod StandCuts
 pub mod StandSheets
 pub mod Within
 pub mod WithinRefusals
+pub mod FirstRefusals
+pub mod FirstFaults

@@ -3,6 +3,7 @@
 
 mod cuts;
 mod declaration;
+mod first_law;
 mod parts;
 mod places_law;
 mod reader;
@@ -13,6 +14,7 @@ mod sheet_laws;
 mod standing_law;
 mod within_law;
 
+pub use first_law::{the_first_fault_is_named, the_first_refusal_is_named};
 pub use places_law::places_do_not_matter;
 pub use reader::{RuleFault, read_sheet};
 pub use refusal::{Refusal, Sought};

@@ -1,6 +1,8 @@
 use Rattle.std.proofs.Common.{◌∙◌, ap, sym}
-use Rattle.css_rules.specs.Runs.{bare_runs}
-use Rattle.cascade_spec.proofs.KeepsLemmas.{SheetLaws, keeps-winners, one-sheet}
+use Rattle.css_rules.specs.Runs.{bare_runs, runs_of}
+use Rattle.css_rules.specs.Sheets.{sheet_of}
+use Rattle.css_rules.specs.SheetTexts.{sheet_text}
+use Rattle.cascade_spec.proofs.KeepsLemmas.{SheetLaws, again-keeps, one-sheet, reads-again}
 use Rattle.cascade_spec.proofs.laws.sheets_keep_winners.Goals as goal
 
 pub returns : goal.returns
@@ -19,6 +21,7 @@ returns c =
       places = c.places_do_not_matter.ensures;
     } in
     record {
-      kept = keeps-winners laws;
+      again = reads-again laws;
+      kept = λ source cs plain read. again-keeps source (sheet_text (runs_of (sheet_of cs))) (reads-again laws source cs plain read);
       one = λ text a b p q. ap bare_runs p.2 ∙ one-sheet laws text p.0 q.0 p.1 q.1 ∙ sym (ap bare_runs q.2);
     }

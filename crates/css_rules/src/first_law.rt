@@ -1,0 +1,27 @@
+ghost use Rattle.css_rules.specs.Components.{head};
+ghost use Rattle.css_rules.specs.Refusals.{first_refusal, place_of};
+ghost use Rattle.css_rules.specs.SelectorFaults.{first_of};
+ghost use Rattle.css_rules.specs.Selectors.{list_faults};
+ghost use Rattle.css_rules.specs.declared.refusal.Refusal.TheVariants.{Syntax, Unbuilt};
+ghost use Rattle.css_rules.specs.declared.refusal.Refusal.{Refusal};
+ghost use Rattle.css_tokens.specs.Pairing.{places_rise};
+ghost use Rattle.css_tokens.specs.Trees.{pieces_all};
+ghost use Rattle.css_tokens.specs.declared.component.Component.{Component};
+ghost use Rattle.std.specs.List.{AllByRecursion, Contains};
+ghost use Rattle.std.specs.Prelude.{◌≡◌, ◌≢◌, ◌≤◌, ℕ, List, [], ◌∷◌, ◌++◌, IsTrue, None, Some};
+
+/// The refusal that is named is one of those that stand, none stands before it, and one is named where any stands. At its
+/// own place it is a construct that is not built yet where one stands there.
+pub fn the_first_refusal_is_named()
+    ensures stands { (rs : List Refusal) (r : Refusal) → first_refusal rs ≡ Some r → Contains rs r }
+    ensures least { (rs : List Refusal) (r : Refusal) → first_refusal rs ≡ Some r → AllByRecursion (λ s. place_of r ≤ place_of s) rs }
+    ensures tie { (rs : List Refusal) (at : ℕ) → first_refusal rs ≡ Some (Syntax at) → AllByRecursion (λ s. s ≢ Unbuilt at) rs }
+    ensures some { (rs : List Refusal) → first_refusal rs ≡ None → rs ≡ [] }
+{}
+
+/// No fault of a selector list stands before the one that is named, where the places of its tokens rise. They do where the
+/// list is read from components whose places rise, up to the one behind it.
+pub fn the_first_fault_is_named()
+    ensures least { (cs : List Component) (end at : ℕ) → IsTrue (places_rise (pieces_all cs) end) → first_of (list_faults cs end) ≡ Some at → AllByRecursion (λ other. at ≤ other) (list_faults cs end) }
+    ensures prelude { (front cs behind : List Component) (block : Component) (end at : ℕ) → IsTrue (places_rise (pieces_all (front ++ (cs ++ block ∷ behind))) end) → first_of (list_faults cs (head block).at) ≡ Some at → AllByRecursion (λ other. at ≤ other) (list_faults cs (head block).at) }
+{}
