@@ -3,7 +3,13 @@ use Rattle.std.proofs.Common.{ℕ, List, [], ◌∷◌, ◌++◌, ◌≡◌, ◌
 use Rattle.std.specs.Prelude.{Result, Ok, Err, OnErr}
 use Rattle.std.proofs.lemmas.List.{append-nil, length-drop}
 use Rattle.std.proofs.Math.Seq.{take-length}
-use Rattle.css_rules.specs.Writing.{IsWritten, IsBegun}
+use Rattle.css_tokens.specs.Appends.{AppendsFront}
+
+-- new is old and then all of the text but this rest
+pub record IsWritten (old new text rest : List ℕ) : Type 0 where
+  pub part : List ℕ
+  pub written : new ≡ old ++ part
+  pub whole : text ≡ part ++ rest
 
 pub start : (old text : List ℕ) → IsWritten old old text text
 start old text = record { part = []; written = sym (append-nil old); whole = refl }
@@ -25,25 +31,21 @@ pub last : {old new text rest new' : List ℕ} → IsWritten old new text rest �
 last {old} {new} {text} {rest} {new'} w e = e ∙ ap (λ (xs : List ℕ). xs ++ rest) w.written ∙ append_assoc old w.part rest ∙ ap (λ (xs : List ℕ). old ++ xs) (sym w.whole)
 
 -- a refusal within a piece
-pub within : {old new text rest new' : List ℕ} (a r : List ℕ) → IsWritten old new text rest → rest ≡ a ++ r → IsBegun new new' a → IsBegun old new' text
+pub within : {old new text rest new' : List ℕ} (a r : List ℕ) → IsWritten old new text rest → rest ≡ a ++ r → AppendsFront new new' a → AppendsFront old new' text
 within {old} {new} {text} {rest} {new'} a r w cut b = record {
+  front = w.part ++ b.front;
   rest = b.rest ++ r;
-  front = record {
-    part = w.part ++ b.front.part;
-    written = b.front.written ∙ ap (λ (xs : List ℕ). xs ++ b.front.part) w.written ∙ append_assoc old w.part b.front.part;
-    whole = w.whole ∙ ap (λ (xs : List ℕ). w.part ++ xs) (cut ∙ ap (λ (xs : List ℕ). xs ++ r) b.front.whole ∙ append_assoc b.front.part b.rest r) ∙ sym (append_assoc w.part b.front.part (b.rest ++ r));
-  };
+  split = w.whole ∙ ap (λ (xs : List ℕ). w.part ++ xs) (cut ∙ ap (λ (xs : List ℕ). xs ++ r) b.split ∙ append_assoc b.front b.rest r) ∙ sym (append_assoc w.part b.front (b.rest ++ r));
+  appended = b.appended ∙ ap (λ (xs : List ℕ). xs ++ b.front) w.written ∙ append_assoc old w.part b.front;
 }
 
 -- a refusal within the last piece
-pub within_last : {old new text rest new' : List ℕ} → IsWritten old new text rest → IsBegun new new' rest → IsBegun old new' text
+pub within_last : {old new text rest new' : List ℕ} → IsWritten old new text rest → AppendsFront new new' rest → AppendsFront old new' text
 within_last {old} {new} {text} {rest} {new'} w b = record {
+  front = w.part ++ b.front;
   rest = b.rest;
-  front = record {
-    part = w.part ++ b.front.part;
-    written = b.front.written ∙ ap (λ (xs : List ℕ). xs ++ b.front.part) w.written ∙ append_assoc old w.part b.front.part;
-    whole = w.whole ∙ ap (λ (xs : List ℕ). w.part ++ xs) b.front.whole ∙ sym (append_assoc w.part b.front.part b.rest);
-  };
+  split = w.whole ∙ ap (λ (xs : List ℕ). w.part ++ xs) b.split ∙ sym (append_assoc w.part b.front b.rest);
+  appended = b.appended ∙ ap (λ (xs : List ℕ). xs ++ b.front) w.written ∙ append_assoc old w.part b.front;
 }
 
 pub on_err : {A E : Type 0} (r : Result A E) {P : Type 0} → P → OnErr r P

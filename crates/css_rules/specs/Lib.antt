@@ -13,7 +13,6 @@ pub mod ReadableSelectors
 pub mod SelectorAtoms
 pub mod SelectorWords
 pub mod Signs
-pub mod Writing
 pub mod Runs
 pub mod SheetTexts
 pub mod SheetAgain

@@ -1,6 +1,7 @@
 mod Parts
 mod Says
 mod Loads
+mod Fronts
 mod Printing
 mod Plain
 mod TextFaults

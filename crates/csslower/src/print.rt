@@ -1,8 +1,9 @@
-ghost use Rattle.std.specs.Prelude.{◌≡◌, ◌++◌, List, flat_map, IfOk, OnOk};
+ghost use Rattle.std.specs.Prelude.{◌≡◌, ◌++◌, List, flat_map, IfOk, OnErr, OnOk};
 ghost use Rattle.css_rules.specs.BareSelectors.{BareSelector, bare_list};
 ghost use Rattle.css_rules.specs.Runs.{runs_of, runs_within};
 ghost use Rattle.css_rules.specs.SheetTexts.{declaration_text, declarations_text, importance_text, innermost, more_declarations, printed_value, run_text, sheet_text};
 ghost use Rattle.css_rules.specs.declared.sheet.Item.{Style as the_style};
+ghost use Rattle.css_tokens.specs.Appends.{AppendsFront};
 ghost use Rattle.css_tokens.specs.NameText.{name_text};
 
 use css_rules::selector::{Selector, write_list};
@@ -12,7 +13,8 @@ use std::alloc::Global;
 
 // Writes a name by the identifier serialization of CSSOM, and an empty one as nothing.
 fn write_name(name: &Text, out: &mut List<u8>) -> Result<(), OutOfMemory>
-    ensures { OnOk result (out.new ≡ out.old ++ name_text name.now) }
+    ensures ok { OnOk result (out.new ≡ out.old ++ name_text name.now) }
+    ensures err { OnErr result (AppendsFront out.old out.new (name_text name.now)) }
 {
     if name.as_str().is_empty() {
         return Ok(());
@@ -22,7 +24,8 @@ fn write_name(name: &Text, out: &mut List<u8>) -> Result<(), OutOfMemory>
 
 // Writes a value, and an empty one as one space.
 fn write_value(value: &[Component], out: &mut List<u8>) -> Result<(), OutOfMemory>
-    ensures { OnOk result (out.new ≡ out.old ++ printed_value value.now) }
+    ensures ok { OnOk result (out.new ≡ out.old ++ printed_value value.now) }
+    ensures err { OnErr result (AppendsFront out.old out.new (printed_value value.now)) }
 {
     match value {
         [] => out.extend_from_slice(b" "),
@@ -32,7 +35,8 @@ fn write_value(value: &[Component], out: &mut List<u8>) -> Result<(), OutOfMemor
 
 // Writes the mark of importance, where there is one.
 fn write_importance(important: bool, out: &mut List<u8>) -> Result<(), OutOfMemory>
-    ensures { OnOk result (out.new ≡ out.old ++ importance_text important) }
+    ensures ok { OnOk result (out.new ≡ out.old ++ importance_text important) }
+    ensures err { OnErr result (AppendsFront out.old out.new (importance_text important)) }
 {
     if important {
         return out.extend_from_slice(b"!important");
@@ -41,7 +45,8 @@ fn write_importance(important: bool, out: &mut List<u8>) -> Result<(), OutOfMemo
 }
 
 fn write_declaration(declaration: &Declaration, out: &mut List<u8>) -> Result<(), OutOfMemory>
-    ensures { OnOk result (out.new ≡ out.old ++ declaration_text declaration.now) }
+    ensures ok { OnOk result (out.new ≡ out.old ++ declaration_text declaration.now) }
+    ensures err { OnErr result (AppendsFront out.old out.new (declaration_text declaration.now)) }
 {
     write_name(&declaration.name, out)?;
     out.extend_from_slice(b":")?;
@@ -51,7 +56,8 @@ fn write_declaration(declaration: &Declaration, out: &mut List<u8>) -> Result<()
 
 // Writes declarations, each behind a semicolon.
 fn write_more(declarations: &[Declaration], out: &mut List<u8>) -> Result<(), OutOfMemory>
-    ensures { OnOk result (out.new ≡ out.old ++ more_declarations declarations.now) }
+    ensures ok { OnOk result (out.new ≡ out.old ++ more_declarations declarations.now) }
+    ensures err { OnErr result (AppendsFront out.old out.new (more_declarations declarations.now)) }
 {
     for declaration in declarations {
         out.extend_from_slice(b";")?;
@@ -62,7 +68,8 @@ fn write_more(declarations: &[Declaration], out: &mut List<u8>) -> Result<(), Ou
 
 // Writes declarations joined by semicolons.
 fn write_declarations(declarations: &[Declaration], out: &mut List<u8>) -> Result<(), OutOfMemory>
-    ensures { OnOk result (out.new ≡ out.old ++ declarations_text declarations.now) }
+    ensures ok { OnOk result (out.new ≡ out.old ++ declarations_text declarations.now) }
+    ensures err { OnErr result (AppendsFront out.old out.new (declarations_text declarations.now)) }
 {
     match declarations {
         [] => Ok(()),
@@ -79,7 +86,8 @@ fn write_run(
     declarations: &[Declaration],
     out: &mut List<u8>,
 ) -> Result<(), OutOfMemory>
-    ensures { (chain : List (List BareSelector)) → innermost chain ≡ bare_list list.now → OnOk result (out.new ≡ out.old ++ run_text (record { chain = chain; declarations = declarations.now })) }
+    ensures ok { (chain : List (List BareSelector)) → innermost chain ≡ bare_list list.now → OnOk result (out.new ≡ out.old ++ run_text (record { chain = chain; declarations = declarations.now })) }
+    ensures err { (chain : List (List BareSelector)) → innermost chain ≡ bare_list list.now → OnErr result (AppendsFront out.old out.new (run_text (record { chain = chain; declarations = declarations.now }))) }
 {
     write_list(list, out)?;
     out.extend_from_slice(b"{")?;
@@ -90,7 +98,8 @@ fn write_run(
 // Writes an item that stands right inside the rule with this selector list.
 #[cycle(print)]
 fn write_item(item: &Item, list: &[Selector], out: &mut List<u8>) -> Result<(), OutOfMemory>
-    ensures { (chain : List (List BareSelector)) → innermost chain ≡ bare_list list.now → OnOk result (out.new ≡ out.old ++ sheet_text (runs_within item.now chain)) }
+    ensures ok { (chain : List (List BareSelector)) → innermost chain ≡ bare_list list.now → OnOk result (out.new ≡ out.old ++ sheet_text (runs_within item.now chain)) }
+    ensures err { (chain : List (List BareSelector)) → innermost chain ≡ bare_list list.now → OnErr result (AppendsFront out.old out.new (sheet_text (runs_within item.now chain))) }
 {
     match item {
         Item::Style(style) => write_style(style, out),
@@ -100,7 +109,8 @@ fn write_item(item: &Item, list: &[Selector], out: &mut List<u8>) -> Result<(), 
 
 #[cycle(print)]
 fn write_style(style: &Style, out: &mut List<u8>) -> Result<(), OutOfMemory>
-    ensures { (chain : List (List BareSelector)) → OnOk result (out.new ≡ out.old ++ sheet_text (runs_within (the_style style.now) chain)) }
+    ensures ok { (chain : List (List BareSelector)) → OnOk result (out.new ≡ out.old ++ sheet_text (runs_within (the_style style.now) chain)) }
+    ensures err { (chain : List (List BareSelector)) → OnErr result (AppendsFront out.old out.new (sheet_text (runs_within (the_style style.now) chain))) }
 {
     write_items(style.items.as_slice(), style.selectors.as_slice(), out)
 }
@@ -108,7 +118,8 @@ fn write_style(style: &Style, out: &mut List<u8>) -> Result<(), OutOfMemory>
 // Writes items that stand right inside the rule with this selector list.
 #[cycle(print)]
 fn write_items(items: &[Item], list: &[Selector], out: &mut List<u8>) -> Result<(), OutOfMemory>
-    ensures { (chain : List (List BareSelector)) → innermost chain ≡ bare_list list.now → OnOk result (out.new ≡ out.old ++ sheet_text (flat_map (λ item. runs_within item chain) items.now)) }
+    ensures ok { (chain : List (List BareSelector)) → innermost chain ≡ bare_list list.now → OnOk result (out.new ≡ out.old ++ sheet_text (flat_map (λ item. runs_within item chain) items.now)) }
+    ensures err { (chain : List (List BareSelector)) → innermost chain ≡ bare_list list.now → OnErr result (AppendsFront out.old out.new (sheet_text (flat_map (λ item. runs_within item chain) items.now))) }
 {
     for item in items {
         write_item(item, list, out)?;

@@ -11,8 +11,8 @@ none-long : (text : List ℕ) → nat_eq (length text) 0 ≡ true → text ≡ [
 none-long [] h = refl
 none-long (x ∷ text) h = let e = eqb-true (length (x ∷ text)) 0 h in absurd (omega arith)
 
-pub returns-then-is_empty : goal.returns-then-is_empty
-returns-then-is_empty c =
+pub returns-then-is_empty-clause-ok : goal.returns-then-is_empty-clause-ok
+returns-then-is_empty-clause-ok c =
     let out = c.args.out.now in
     let none : c.args.name.now ≡ [] = sym c.as_str.ensures ∙ none-long c.as_str.result.now (sym c.is_empty.ensures ∙ c.if-is_empty.true) in
     sym (append-nil out) ∙ ap (λ (t : List ℕ). out ++ t) (sym no-text) ∙ ap (λ (t : List ℕ). out ++ name_text t) (sym none)

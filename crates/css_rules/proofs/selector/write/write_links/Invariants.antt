@@ -1,7 +1,7 @@
 use Rattle.std.proofs.Common.{map, drop}
 use Rattle.css_rules.specs.BareSelectors.{bare_link}
 use Rattle.css_rules.specs.SelectorTexts.{links_text}
-use Rattle.css_rules.specs.Writing.{IsWritten}
+use Rattle.css_rules.proofs.WritingLemmas.{IsWritten}
 use Rattle.css_rules.proofs.selector.write.write_links.Given as goal
 
 abbrev pub invariant-loop-link : goal.invariant-loop-link

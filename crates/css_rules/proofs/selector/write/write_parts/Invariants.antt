@@ -1,7 +1,7 @@
 use Rattle.std.proofs.Common.{map, drop}
 use Rattle.std.specs.Prelude.{flat_map}
 use Rattle.css_rules.specs.SelectorTexts.{simple_text}
-use Rattle.css_rules.specs.Writing.{IsWritten}
+use Rattle.css_rules.proofs.WritingLemmas.{IsWritten}
 use Rattle.css_rules.proofs.selector.write.write_parts.Given as goal
 
 abbrev pub invariant-loop-part : goal.invariant-loop-part
