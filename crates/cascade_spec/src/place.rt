@@ -1,8 +1,8 @@
 ghost use Rattle.std.specs.Prelude.{◌≡◌, ◌≤◌, ◌<◌, ◌-◌, ◌^◌, length};
 ghost use Rattle.cascade_spec.specs.Lines.{line_of, column_of};
 
-/// A place in a file.
-#[derive(Clone, Copy, Debug, PartialEq, Eq)]
+/// A place in a file. Places are ordered by file, then by offset.
+#[derive(Clone, Copy, Debug, PartialEq, Eq, PartialOrd, Ord)]
 pub struct Place {
     /// The number of the file.
     pub file: u32,
@@ -39,7 +39,7 @@ pub fn line_column(text: &[u8], offset: u32) -> LineColumn
 
 #[cfg(test)]
 mod tests {
-    use super::{LineColumn, line_column};
+    use super::{LineColumn, Place, line_column};
     use std::test::Fail;
 
     #[test]
@@ -48,6 +48,14 @@ mod tests {
         assert_eq!(rt; line_column(b"a\nbc", 1), LineColumn { line: 1, column: 2 });
         assert_eq!(rt; line_column(b"a\nbc", 2), LineColumn { line: 2, column: 1 });
         assert_eq!(rt; line_column(b"a\nbc", 4), LineColumn { line: 2, column: 3 });
+        Ok(())
+    }
+    #[test]
+    fn orders_places_by_file_and_offset(rt: HostRuntime) -> Result<(), Fail> {
+        let place = Place { file: 1, offset: 5 };
+        assert!(rt; place < Place { file: 1, offset: 6 });
+        assert!(rt; place < Place { file: 2, offset: 0 });
+        assert!(rt; Place { file: 0, offset: 9 } < place);
         Ok(())
     }
 }

@@ -1,5 +1,5 @@
 -- Reading a text token by token.
-use Rattle.std.proofs.Common.{◌≡◌, ℕ, suc, zero, ◌+◌, ◌-◌, ◌^◌, ◌<◌, ◌≤◌, List, [], ◌∷◌, ◌++◌, map, length, take, drop, true, false, not, ◌&&◌, inl, inr, refl, sym, ap, ap₂, ◌∙◌, subst, Option, Some, None, IsTrue, IfErr, Result, Ok, Err, MatchOption, arith, append_assoc, append-nil, length-append, take-append-drop, nat_lt, nat_eq, ltb-true}
+use Rattle.std.proofs.Common.{◌≡◌, ℕ, suc, zero, ◌+◌, ◌-◌, ◌^◌, ◌<◌, ◌≤◌, List, [], ◌∷◌, ◌++◌, map, length, take, drop, true, false, not, ◌&&◌, inl, inr, refl, sym, ap, ap₂, ◌∙◌, subst, Option, Some, None, IsTrue, IfOk, IfErr, Result, Ok, Err, MatchOption, arith, append_assoc, append-nil, length-append, take-append-drop, nat_lt, nat_eq, ltb-true}
 use Rattle.std.proofs.lemmas.Bool.{cases_Bool, and_parts}
 use Rattle.std.proofs.lemmas.List.{map_push}
 use Rattle.std.proofs.lemmas.List.Concat.{flat_map-append}
@@ -14,7 +14,7 @@ use Rattle.css_tokens.specs.declared.machine.State.TheVariants as state
 use Rattle.css_tokens.specs.Kinds.{table, url_table}
 use Rattle.css_tokens.specs.Machine.{next}
 use Rattle.css_tokens.specs.Piece.{Piece, Word, word_of, spelled}
-use Rattle.css_tokens.specs.Tokens.{First, ReadsTo, IsPlaced, first_front, front_of, url_rule, word, longer, or_else, classes_of, is_refused, is_plain, is_url, quote_follows, Begins, Stops, StopsAt, StopsReading, is_control}
+use Rattle.css_tokens.specs.Tokens.{First, Reads, ReadsTo, IsPlaced, first_front, front_of, url_rule, word, longer, or_else, classes_of, is_refused, is_plain, is_url, quote_follows, Begins, Stops, StopsAt, StopsReading, is_control}
 use Rattle.css_tokens.specs.Faults.{IsFault, IsReadingFault}
 use Rattle.css_tokens.specs.declared.reader.TokenFault.{TokenFault}
 use Rattle.css_tokens.specs.declared.reader.TokenFault.TheVariants.{Syntax, Memory}
@@ -155,6 +155,10 @@ fault_of text Memory n h = tt
 pub faults_of : {A : Type 0} (text read : List ℕ) (r : Result A TokenFault) → None ≡ position is_control text → read ≡ text → IfErr r (λ e. IsReadingFault read e) → IfErr r (λ e. IsFault text e)
 faults_of text read (Ok a) n f h = tt
 faults_of text read (Err e) n f h = fault_of text e n (subst (λ t. IsReadingFault t e) f h)
+
+pub whole_of : (text read : List ℕ) (r : Result (List Piece) TokenFault) → read ≡ text → IfOk r (λ ts. Reads read (map word_of ts)) → IfOk r (λ ts. spelled (map word_of ts) ≡ text)
+whole_of text read (Ok ts) f h = sym (reads_whole read (map word_of ts) [] h ∙ append-nil (spelled (map word_of ts))) ∙ f
+whole_of text read (Err e) f h = tt
 
 pub plain_utf8 : (text : List ℕ) → IsTrue (is_plain text) → IsUtf8 text
 plain_utf8 text h = IsUtf8-from_ascii text (plain_ascii text h)

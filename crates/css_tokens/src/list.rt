@@ -1,4 +1,4 @@
-ghost use Rattle.std.specs.Prelude.{◌≡◌, [], ◌∷◌, ◌++◌, ◌↔◌, ◌<◌, length, IsTrue, IfOk, OnOk, OnErr, MatchOption, OnSome, slice_get};
+ghost use Rattle.std.specs.Prelude.{◌≡◌, [], ◌∷◌, ◌++◌, ◌↔◌, ◌<◌, length, IsTrue, IfOk, OnOk, OnErr, OnSome, slice_get};
 ghost use Rattle.std.specs.Option.{option_copied};
 
 use crate::OutOfMemory;
@@ -48,14 +48,6 @@ impl<T> List<T> {
         List { items }
     }
 
-    /// The items as a `Vec`. Takes no memory.
-    pub fn into_vec(self) -> Vec<T>
-        ensures { result.items ≡ self }
-    {
-        let List { items } = self;
-        items
-    }
-
     /// The items, borrowed.
     pub fn as_slice(&self) -> &[T]
         ensures { result.now ≡ self.now }
@@ -90,13 +82,6 @@ impl<T> List<T> {
         ensures { self.new ≡ self.old }
     {
         self.items.shrink_to_fit();
-    }
-
-    /// Takes the last item off, if there is one.
-    pub fn pop(&mut self) -> Option<T>
-        ensures { MatchOption result ((self.old ≡ []) × (self.new ≡ [])) (λ last. self.old ≡ self.new ++ last ∷ []) }
-    {
-        self.items.pop()
     }
 }
 

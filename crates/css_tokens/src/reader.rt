@@ -5,7 +5,7 @@ ghost use Rattle.css_tokens.specs.Characters.{class_of};
 ghost use Rattle.css_tokens.specs.Kinds.{kind_of};
 ghost use Rattle.css_tokens.specs.Machine.{rows};
 ghost use Rattle.css_tokens.specs.Faults.{IsFault, IsReadingFault};
-ghost use Rattle.css_tokens.specs.Piece.{word_of};
+ghost use Rattle.css_tokens.specs.Piece.{spelled, word_of};
 ghost use Rattle.css_tokens.specs.Tokens.{or_else, as_front, longest, classes_of, is_url, quote_follows, first_front, is_control, is_plain, is_refused, Begins, Reads, IsPlaced, Stops};
 
 use crate::class::{Class, classify};
@@ -63,6 +63,7 @@ pub fn tokens<'a>(alloc: Global, text: &'a [u8]) -> Result<List<Token<'a>>, Toke
     requires short { length text.now < 2 ^ 32 - 1 }
     requires plain { IsTrue (is_plain text.now) }
     ensures read { IfOk result (λ ts. Reads text.now (map word_of ts)) }
+    ensures whole { IfOk result (λ ts. spelled (map word_of ts) ≡ text.now) }
     ensures placed { IfOk result (λ ts. IsPlaced 0 ts) }
     ensures fault { IfErr result (λ e. IsFault text.now e) }
 {
