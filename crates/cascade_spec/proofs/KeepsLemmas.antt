@@ -1,5 +1,5 @@
 -- What is written from a sheet reads as it again, and so keeps the winners of its text.
-use Rattle.std.proofs.Common.{◌≡◌, ℕ, List, [], ◌∷◌, ◌++◌, map, Bool, true, false, ◌&&◌, not, Option, Some, None, refl, sym, ◌∙◌, ap, IsTrue, length, take, drop, nat_lt, nat_eq}
+use Rattle.std.proofs.Common.{◌≡◌, ℕ, List, [], ◌∷◌, ◌++◌, map, flat_map, Bool, true, false, ◌&&◌, not, Option, Some, None, refl, sym, ◌∙◌, ap, IsTrue, length, take, drop, nat_lt, nat_eq}
 use Rattle.std.specs.List.{list_all}
 use Rattle.std.specs.Option.{option_map}
 use Rattle.std.proofs.lemmas.List.{take-append-drop}
@@ -18,6 +18,9 @@ use Rattle.css_rules.specs.Sheets.{sheet_of, sheet_refusals}
 use Rattle.css_rules.specs.SheetAgain.{sheet_again}
 use Rattle.css_rules.specs.SheetTexts.{sheet_text}
 use Rattle.css_rules.specs.Standing.{AllStand}
+use Rattle.css_rules.specs.declared.sheet.Item.{Item}
+use Rattle.css_rules.specs.declared.sheet.Sheet.{Sheet}
+use Rattle.cascade_spec.specs.Contents.{contents_of, mentions_in}
 use Rattle.cascade_spec.specs.Cascade.{winner}
 use Rattle.cascade_spec.specs.Readings.{ReadsAs, IsReadAgain, KeepsWinners}
 
@@ -98,9 +101,19 @@ module _ (laws : SheetLaws) where
             ∙ ap bare_runs (sym is_old.2);
       }
 
--- equal runs have equal winners
+no_mentions : (items : List Item) → flat_map mentions_in items ≡ []
+no_mentions [] = refl
+no_mentions (item ∷ items) = no_mentions items
+
+-- equal runs give the same to the cascade
+same_contents : (a b : Sheet) → bare_runs a ≡ bare_runs b → contents_of a ≡ contents_of b
+same_contents a b runs =
+    let mentions : flat_map mentions_in a.items ≡ flat_map mentions_in b.items = no_mentions a.items ∙ sym (no_mentions b.items) in
+    cc (runs, mentions)
+
+-- and so have equal winners
 pub again-keeps : (source written : List ℕ) → IsReadAgain source written → KeepsWinners source written
 again-keeps source written again = record {
   readable = again.readable;
-  same = λ old new is_old is_new q. ap (winner q) (again.same old new is_old is_new);
+  same = λ old new is_old is_new q. ap (winner q) (same_contents new old (again.same old new is_old is_new));
 }

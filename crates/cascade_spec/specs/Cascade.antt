@@ -5,13 +5,13 @@ use Rattle.std.specs.Option.{option_map}
 use Rattle.std.specs.Ordering.{is_gt, ordering_then}
 use Rattle.std.specs.declared.cmp.Ordering.{Ordering}
 use Rattle.std.specs.declared.cmp.Ordering.TheVariants.{Equal, Greater}
-use Rattle.css_rules.specs.Runs.{BareRun}
 use Rattle.cascade_spec.specs.declared.document.Document.{Document}
 use Rattle.cascade_spec.specs.declared.environment.Environment.{Environment}
 use Rattle.cascade_spec.specs.Specificities.{Specificity, specificity_cmp}
 use Rattle.cascade_spec.specs.Matching.{Subject, Around, around_all}
 use Rattle.cascade_spec.specs.Layers.{LayerPath, layer_cmp}
-use Rattle.cascade_spec.specs.Entries.{Entry, entries_of, is_active, value_set}
+use Rattle.cascade_spec.specs.Contents.{Contents}
+use Rattle.cascade_spec.specs.Entries.{Entry, is_active, value_set}
 
 -- what is asked: the winner of a longhand for a subject, among the normal or the important declarations
 pub record Question : Type 0 where
@@ -71,10 +71,6 @@ abbrev pub winning : Bool → List LayerPath → List Shown → Option Shown
 winning important mentions [] = None
 winning important mentions (x ∷ xs) = Some (above_of important mentions x (winning important mentions xs))
 
--- the layers that a sheet mentions: none, while layers are refused
-abbrev pub mentions_of : List BareRun → List LayerPath
-mentions_of runs = []
-
--- the winning value, where there is one
-abbrev pub winner : Question → List BareRun → Option (List ℕ)
-winner q runs = option_map (λ (x : Shown). x.value) (winning q.important (mentions_of runs) (shown q (entries_of runs)))
+-- the winning value among the contents of a sheet, where there is one
+abbrev pub winner : Question → Contents → Option (List ℕ)
+winner q contents = option_map (λ (x : Shown). x.value) (winning q.important contents.mentions (shown q contents.entries))

@@ -3,6 +3,7 @@ pub mod Specificities
 pub mod Matching
 pub mod Layers
 pub mod Entries
+pub mod Contents
 pub mod Cascade
 pub mod Readings
 pub mod Samples

@@ -6,6 +6,7 @@ use Rattle.css_tokens.specs.Trees.{words_all, all_formed}
 use Rattle.css_rules.specs.declared.sheet.Sheet.{Sheet}
 use Rattle.css_rules.specs.Sheets.{sheet_of, sheet_refusals}
 use Rattle.css_rules.specs.Runs.{bare_runs}
+use Rattle.cascade_spec.specs.Contents.{contents_of}
 use Rattle.cascade_spec.specs.Cascade.{Question, winner}
 
 -- The text reads as these components, places aside: their words are its tokens, their brackets are paired, and nothing in them is refused.
@@ -26,4 +27,4 @@ pub record IsReadAgain (source written : List ℕ) : Type 0 where
 -- Under the sheet of the one text each winner is that under the sheet of the other, and it has one.
 pub record KeepsWinners (source written : List ℕ) : Type 0 where
   pub readable : (sheet : Sheet) × HasSheet written sheet
-  pub same : (old new : Sheet) → HasSheet source old → HasSheet written new → (q : Question) → winner q (bare_runs new) ≡ winner q (bare_runs old)
+  pub same : (old new : Sheet) → HasSheet source old → HasSheet written new → (q : Question) → winner q (contents_of new) ≡ winner q (contents_of old)

@@ -13,7 +13,8 @@ use Rattle.cascade_spec.specs.declared.environment.Shorthand.{Shorthand}
 use Rattle.cascade_spec.specs.Specificities.{Specificity}
 use Rattle.cascade_spec.specs.Matching.{Subject, Around, top, within, selector_holds}
 use Rattle.cascade_spec.specs.Layers.{LayerName, LayerPath}
-use Rattle.cascade_spec.specs.Entries.{Entry, entry_of}
+use Rattle.cascade_spec.specs.Entries.{Entry, entry_of, entries_of}
+use Rattle.cascade_spec.specs.Contents.{Contents}
 use Rattle.cascade_spec.specs.Cascade.{Question, Shown}
 
 abbrev pub element : Option ℕ → String → Option (List ℕ) → List (List ℕ) → Element
@@ -128,6 +129,18 @@ list_rule declarations = record { chain = either ∷ []; declarations = declarat
 -- a rule in a rule `#b, .a`
 abbrev pub nested_rule : BareCompound → List BareDeclaration → BareRun
 nested_rule k declarations = record { chain = either ∷ (one k ∷ []) ∷ []; declarations = declarations }
+
+-- a sheet of these rules, which mentions no layer
+abbrev pub given : List BareRun → Contents
+given runs = record { entries = entries_of runs; mentions = [] }
+
+-- a sheet of these entries, which mentions these layers in their order
+abbrev pub layered : List LayerPath → List Entry → Contents
+layered order entries = record { entries = entries; mentions = order }
+
+-- a declaration in a rule `*` in this layer
+abbrev pub in_layer : LayerPath → BareDeclaration → Entry
+in_layer path d = record { layer = path; chain = (one every ∷ []) ∷ []; name = d.name; value = d.value; important = d.important }
 
 -- what a declaration of a shorthand sets
 abbrev pub row : String → String → List (List ℕ × List ℕ) → Shorthand

@@ -10,7 +10,7 @@ ghost use Rattle.cascade_spec.specs.Matching.{top, within, selector_holds, selec
 ghost use Rattle.cascade_spec.specs.Layers.{layer_cmp};
 ghost use Rattle.cascade_spec.specs.Entries.{is_active, value_set};
 ghost use Rattle.cascade_spec.specs.Cascade.{winning, winner};
-ghost use Rattle.cascade_spec.specs.Samples.{page, whole, before, every, kind, class, id, parent, also, one, two, three, led, inside, matched, specificity, layer, sublayer, unnamed, mentions, seen, normal, important, entry, rule, list_rule, nested_rule, browser, asked};
+ghost use Rattle.cascade_spec.specs.Samples.{page, whole, before, every, kind, class, id, parent, also, one, two, three, led, inside, matched, specificity, layer, sublayer, unnamed, mentions, seen, normal, important, entry, rule, list_rule, nested_rule, browser, asked, given, layered, in_layer};
 
 /// Lines and columns begin at 1, and only LF begins a line.
 pub fn lines_and_columns()
@@ -121,20 +121,20 @@ pub fn declarations_set()
 
 /// Which declaration wins for the paragraph `.a.red` (CSS Cascading 5, section 6.1).
 pub fn declarations_win()
-    ensures later { winner (asked false "color") (rule (class "a") (normal "color" "red" ∷ []) ∷ rule (class "red") (normal "color" "blue" ∷ []) ∷ []) ≡ Some (codes "blue") }
-    ensures later_in_a_rule { winner (asked false "color") (rule every (normal "color" "red" ∷ normal "color" "blue" ∷ []) ∷ []) ≡ Some (codes "blue") }
-    ensures more_specific { winner (asked false "color") (rule (class "a") (normal "color" "red" ∷ []) ∷ rule (kind "p") (normal "color" "blue" ∷ []) ∷ []) ≡ Some (codes "red") }
-    ensures more_specific_and_later { winner (asked false "color") (rule (kind "p") (normal "color" "red" ∷ []) ∷ rule (class "a") (normal "color" "blue" ∷ []) ∷ []) ≡ Some (codes "blue") }
-    ensures important { winner (asked true "color") (rule every (important "color" "red" ∷ []) ∷ rule (class "a") (normal "color" "blue" ∷ []) ∷ []) ≡ Some (codes "red") }
-    ensures normal { winner (asked false "color") (rule every (important "color" "red" ∷ []) ∷ rule (class "a") (normal "color" "blue" ∷ []) ∷ []) ≡ Some (codes "blue") }
-    ensures none_important { winner (asked true "color") (rule every (normal "color" "red" ∷ []) ∷ []) ≡ None }
-    ensures rejected { winner (asked false "color") (rule every (normal "color" "red" ∷ normal "color" "oops" ∷ []) ∷ []) ≡ Some (codes "red") }
-    ensures unmatched { winner (asked false "color") (rule (id "b") (normal "color" "red" ∷ []) ∷ []) ≡ None }
-    ensures list_by_its_matching_member { winner (asked false "color") (list_rule (normal "color" "red" ∷ []) ∷ rule (class "red") (normal "color" "blue" ∷ []) ∷ []) ≡ Some (codes "blue") }
-    ensures nested_by_the_most_of_its_parent { winner (asked false "color") (nested_rule (also parent "red") (normal "color" "red" ∷ []) ∷ rule (also (class "a") "red") (normal "color" "blue" ∷ []) ∷ []) ≡ Some (codes "red") }
-    ensures longhand_of_a_shorthand { winner (asked false "margin-left") (rule every (normal "margin" "1px 2px" ∷ normal "margin-top" "3px" ∷ []) ∷ []) ≡ Some (codes "2px") }
-    ensures longhand_over_a_shorthand { winner (asked false "margin-top") (rule every (normal "margin" "1px 2px" ∷ normal "margin-top" "3px" ∷ []) ∷ []) ≡ Some (codes "3px") }
-    ensures shorthand_over_a_longhand { winner (asked false "margin-top") (rule every (normal "margin-top" "3px" ∷ normal "margin" "1px 2px" ∷ []) ∷ []) ≡ Some (codes "1px") }
+    ensures later { winner (asked false "color") (given (rule (class "a") (normal "color" "red" ∷ []) ∷ rule (class "red") (normal "color" "blue" ∷ []) ∷ [])) ≡ Some (codes "blue") }
+    ensures later_in_a_rule { winner (asked false "color") (given (rule every (normal "color" "red" ∷ normal "color" "blue" ∷ []) ∷ [])) ≡ Some (codes "blue") }
+    ensures more_specific { winner (asked false "color") (given (rule (class "a") (normal "color" "red" ∷ []) ∷ rule (kind "p") (normal "color" "blue" ∷ []) ∷ [])) ≡ Some (codes "red") }
+    ensures more_specific_and_later { winner (asked false "color") (given (rule (kind "p") (normal "color" "red" ∷ []) ∷ rule (class "a") (normal "color" "blue" ∷ []) ∷ [])) ≡ Some (codes "blue") }
+    ensures important { winner (asked true "color") (given (rule every (important "color" "red" ∷ []) ∷ rule (class "a") (normal "color" "blue" ∷ []) ∷ [])) ≡ Some (codes "red") }
+    ensures normal { winner (asked false "color") (given (rule every (important "color" "red" ∷ []) ∷ rule (class "a") (normal "color" "blue" ∷ []) ∷ [])) ≡ Some (codes "blue") }
+    ensures none_important { winner (asked true "color") (given (rule every (normal "color" "red" ∷ []) ∷ [])) ≡ None }
+    ensures rejected { winner (asked false "color") (given (rule every (normal "color" "red" ∷ normal "color" "oops" ∷ []) ∷ [])) ≡ Some (codes "red") }
+    ensures unmatched { winner (asked false "color") (given (rule (id "b") (normal "color" "red" ∷ []) ∷ [])) ≡ None }
+    ensures list_by_its_matching_member { winner (asked false "color") (given (list_rule (normal "color" "red" ∷ []) ∷ rule (class "red") (normal "color" "blue" ∷ []) ∷ [])) ≡ Some (codes "blue") }
+    ensures nested_by_the_most_of_its_parent { winner (asked false "color") (given (nested_rule (also parent "red") (normal "color" "red" ∷ []) ∷ rule (also (class "a") "red") (normal "color" "blue" ∷ []) ∷ [])) ≡ Some (codes "red") }
+    ensures longhand_of_a_shorthand { winner (asked false "margin-left") (given (rule every (normal "margin" "1px 2px" ∷ normal "margin-top" "3px" ∷ []) ∷ [])) ≡ Some (codes "2px") }
+    ensures longhand_over_a_shorthand { winner (asked false "margin-top") (given (rule every (normal "margin" "1px 2px" ∷ normal "margin-top" "3px" ∷ []) ∷ [])) ≡ Some (codes "3px") }
+    ensures shorthand_over_a_longhand { winner (asked false "margin-top") (given (rule every (normal "margin-top" "3px" ∷ normal "margin" "1px 2px" ∷ []) ∷ [])) ≡ Some (codes "1px") }
 {}
 
 /// Layers count before specificity, and among important declarations the other way round (CSS Cascading 5, section 6.4).
@@ -144,4 +144,6 @@ pub fn layers_win()
     ensures without_a_layer { winning false mentions (seen [] (specificity 0 0 1) "red" ∷ seen (layer "base") (specificity 1 0 0) "blue" ∷ []) ≡ Some (seen [] (specificity 0 0 1) "red") }
     ensures later_of_a_tie { winning false mentions (seen (layer "base") (specificity 0 1 0) "red" ∷ seen (layer "base") (specificity 0 1 0) "blue" ∷ []) ≡ Some (seen (layer "base") (specificity 0 1 0) "blue") }
     ensures none { winning false mentions [] ≡ None }
+    ensures by_the_order_of_mention { winner (asked false "color") (layered (layer "b" ∷ layer "a" ∷ []) (in_layer (layer "a") (normal "color" "red") ∷ in_layer (layer "b") (normal "color" "blue") ∷ [])) ≡ Some (codes "red") }
+    ensures by_the_order_of_mention_important { winner (asked true "color") (layered (layer "b" ∷ layer "a" ∷ []) (in_layer (layer "a") (important "color" "red") ∷ in_layer (layer "b") (important "color" "blue") ∷ [])) ≡ Some (codes "blue") }
 {}
