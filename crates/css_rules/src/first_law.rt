@@ -19,8 +19,8 @@ pub fn the_first_refusal_is_named()
     ensures some { (rs : List Refusal) → first_refusal rs ≡ None → rs ≡ [] }
 {}
 
-/// No fault of a selector list stands before the one that is named, where the places of its tokens rise. They do where the
-/// list is read from components whose places rise, up to the one behind it.
+/// No fault of a selector list stands before the one that is named, where the places of its tokens rise. The same of a
+/// prelude among components whose places rise, which ends where the block behind it begins.
 pub fn the_first_fault_is_named()
     ensures least { (cs : List Component) (end at : ℕ) → IsTrue (places_rise (pieces_all cs) end) → first_of (list_faults cs end) ≡ Some at → AllByRecursion (λ other. at ≤ other) (list_faults cs end) }
     ensures prelude { (front cs behind : List Component) (block : Component) (end at : ℕ) → IsTrue (places_rise (pieces_all (front ++ (cs ++ block ∷ behind))) end) → first_of (list_faults cs (head block).at) ≡ Some at → AllByRecursion (λ other. at ≤ other) (list_faults cs (head block).at) }
