@@ -1,6 +1,6 @@
 -- Sheets of plain style rules (CSS Syntax 3, sections 5.4 and 9), and the places of what they are refused for.
-use Rattle.std.specs.Prelude.{ℕ, List, [], ◌∷◌, ◌++◌, ◌≡◌, Bool, false, ◌&&◌, ◌||◌, not, Option, Some, None, if◌then◌else◌, flat_map}
-use Rattle.std.specs.List.{list_any}
+use Rattle.std.specs.Prelude.{ℕ, List, [], ◌∷◌, ◌++◌, ◌≡◌, ◌≤◌, Bool, false, ◌&&◌, ◌||◌, not, Option, Some, None, if◌then◌else◌, flat_map}
+use Rattle.std.specs.List.{AllByRecursion, Contains, list_any}
 use Rattle.std.specs.Option.{option_to_list}
 use Rattle.css_tokens.specs.declared.component.Component.{Component}
 use Rattle.css_rules.specs.declared.refusal.Refusal.{Refusal}
@@ -14,7 +14,7 @@ use Rattle.css_rules.specs.declared.reader.RuleFault.TheVariants as faults
 use Rattle.css_rules.specs.Components.{head, inside, is_at_keyword, is_semicolon, is_braces, is_custom}
 use Rattle.css_rules.specs.Cuts.{Cut, cuts, trimmed}
 use Rattle.css_rules.specs.Declarations.{declaration_of, begins_custom}
-use Rattle.css_rules.specs.Refusals.{sought_in, is_unbuilt_property}
+use Rattle.css_rules.specs.Refusals.{place_of, sought_in, is_unbuilt_property}
 use Rattle.css_rules.specs.Selectors.{list_of, list_faults}
 
 -- the declarations between the semicolons of a style rule's block
@@ -104,3 +104,9 @@ abbrev pub IsNamed : RuleFault → Option Refusal → Type 0
 IsNamed (faults.Syntax at) refusal = refusal ≡ Some (Syntax at)
 IsNamed (faults.Unbuilt at) refusal = refusal ≡ Some (Unbuilt at)
 IsNamed faults.Memory refusal = Unit {0}
+
+-- a fault is one of these refusals, and none of them stands before it, unless memory ran out
+abbrev pub IsLeast : RuleFault → List Refusal → Type 0
+IsLeast (faults.Syntax at) refusals = Contains refusals (Syntax at) × AllByRecursion (λ other. at ≤ place_of other) refusals
+IsLeast (faults.Unbuilt at) refusals = Contains refusals (Unbuilt at) × AllByRecursion (λ other. at ≤ place_of other) refusals
+IsLeast faults.Memory refusals = Unit {0}

@@ -3,6 +3,7 @@
 
 mod cuts;
 mod declaration;
+pub mod examples;
 mod first_law;
 mod parts;
 mod places_law;

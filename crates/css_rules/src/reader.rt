@@ -7,10 +7,11 @@ ghost use Rattle.css_rules.specs.Cuts.{trimmed};
 ghost use Rattle.css_rules.specs.Declarations.{declaration_of};
 ghost use Rattle.css_rules.specs.Refusals.{first_refusal, holds, is_unbuilt_property};
 ghost use Rattle.css_rules.specs.Selectors.{list_of, list_faults};
-ghost use Rattle.css_rules.specs.Sheets.{declarations_of, run_of, first_place, rule_of, rules_of, sheet_of, declaration_refusals, begins_rule, item_refusals, block_refusals, prelude_refusals, leftover_refusals, begins_at_rule, rule_refusals, sheet_refusals, IsNamed};
+ghost use Rattle.css_rules.specs.Sheets.{declarations_of, run_of, first_place, rule_of, rules_of, sheet_of, declaration_refusals, begins_rule, item_refusals, block_refusals, prelude_refusals, leftover_refusals, begins_at_rule, rule_refusals, sheet_refusals, IsNamed, IsLeast};
 
 use crate::cuts::{Mark, end_of_cut, mark_at, trimmed};
 use crate::declaration::{begins_custom, is_custom, read_declaration};
+use crate::first_law::the_first_refusal_is_named;
 use crate::parts::{head_of, is_block_in, is_token};
 use crate::refusal::{Refusal, Sought, sooner_of, sought_in};
 use crate::selector::{Selector, SelectorFault, read_list};
@@ -294,7 +295,9 @@ pub fn read_sheet<'a>(
     ensures found { IfOk result (λ sheet. sheet ≡ sheet_of text.now) }
     ensures faultless { IfOk result (λ _. sheet_refusals text.now ≡ []) }
     ensures fault { IfErr result (λ fault. IsNamed fault (first_refusal (sheet_refusals text.now))) }
+    ensures least { IfErr result (λ fault. IsLeast fault (sheet_refusals text.now)) }
 {
+    the_first_refusal_is_named();
     let read = read_rules(alloc, text)?;
     match read.refusal {
         None => Ok(Sheet { items: read.value }),

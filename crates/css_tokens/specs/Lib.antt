@@ -15,6 +15,7 @@ pub mod Pendings
 pub mod Piece
 pub mod PlainNames
 pub mod Refusals
+pub mod Samples
 pub mod Texts
 pub mod Tokens
 pub mod Trees

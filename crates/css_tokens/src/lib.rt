@@ -3,6 +3,7 @@
 
 mod class;
 mod component;
+pub mod examples;
 mod kind;
 mod laws;
 mod list;
