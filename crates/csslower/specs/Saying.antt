@@ -1,5 +1,6 @@
 -- What standard error gets, by the answer of a run.
 use Rattle.std.specs.Prelude.{◌≡◌, ℕ, ◌≤◌, ◌⊎◌, List, ◌++◌, length, Option, IfSome}
+use Rattle.cascade_spec.specs.declared.finding.Finding.{Finding}
 use Rattle.css_outside.specs.Names.{Names, bytes_under}
 use Rattle.css_outside.specs.Putting.{message}
 use Rattle.csslower.specs.Lines.{refusal_line, usage_line, unread_line, unwritten_line, memory_line, limit_line}
@@ -25,11 +26,17 @@ pub record SaysOrNot (line : List ℕ) (failed : Type 0) (before now : Names) : 
   pub front : GotFront line before now
   pub whole : (failed → ⊥) → GotLine line before now ⊎ (bytes_under now message ≡ bytes_under before message)
 
--- Standard error got nothing where the text is written, and the line of the answer where it is not. A refusal's line counts
--- in the file's text, and may be left out.
+-- Standard error got the line of a refusal, as above. It counts lines and columns in a text: the file's, where that is told.
+pub record SaysRefusal (path : List ℕ) (source : Option (List ℕ)) (finding : Finding) (failed : Type 0) (before now : Names) : Type 0 where
+  pub text : List ℕ
+  pub of_file : IfSome source (λ told. text ≡ told)
+  pub said : SaysOrNot (refusal_line path text finding) failed before now
+
+-- Standard error got nothing where the text is written, and the line of the answer where it is not. That of a refusal may be
+-- left out.
 abbrev pub Said : List ℕ → Option (List ℕ) → Type 0 → Status → Names → Names → Type 0
 Said path source failed Done before now = now message ≡ before message
-Said path source failed (Refused finding) before now = IfSome source (λ text. SaysOrNot (refusal_line path text finding) failed before now)
+Said path source failed (Refused finding) before now = SaysRefusal path source finding failed before now
 Said path source failed (Usage kind) before now = Says usage_line failed before now
 Said path source failed ReadFault before now = Says (unread_line path) failed before now
 Said path source failed WriteFault before now = Says (unwritten_line standard) failed before now
