@@ -1,4 +1,4 @@
--- What a component begins with, and tests of it.
+-- What a component value begins with, and tests of it (CSS Syntax 3, sections 4 and 5).
 use Rattle.std.specs.Prelude.{ℕ, List, [], Bool, true, false, ◌&&◌, not, codes, nat_eq}
 use Rattle.std.specs.List.{starts_with}
 use Rattle.std.specs.Str.{str_to_ascii_lowercase}
@@ -10,10 +10,11 @@ use Rattle.css_tokens.specs.declared.component.Block as block
 use Rattle.css_tokens.specs.Piece.{Piece}
 use Rattle.css_tokens.specs.Trees.{is_text}
 
--- one component: a token, or a block
+-- a component, laid open: a token, or a block of components
 abbrev pub Layer : Type 0
 Layer = Component-F Component block.Block
 
+-- the token itself, or the one that opens the block
 abbrev pub layer_head : Layer → Piece
 layer_head (Single token) = token
 layer_head (Block b) = b.opening
@@ -22,6 +23,7 @@ layer_head (Block b) = b.opening
 abbrev pub head : Component → Piece
 head c = layer_head (out-Component c)
 
+-- is it a token, and no block?
 abbrev pub layer_is_single : Layer → Bool
 layer_is_single (Single token) = true
 layer_is_single (Block b) = false
@@ -30,35 +32,42 @@ layer_is_single (Block b) = false
 abbrev pub is_single : Component → Bool
 is_single c = layer_is_single (out-Component c)
 
+-- the components in the block; none where it is a token
 abbrev pub layer_items : Layer → List Component
 layer_items (Single token) = []
 layer_items (Block b) = b.items
 
--- what stands in a block
+-- the components in a block; none in a token alone
 abbrev pub inside : Component → List Component
 inside c = layer_items (out-Component c)
 
+-- white space or a comment?
 abbrev pub is_gap_kind : Kind → Bool
 is_gap_kind White = true
 is_gap_kind Comment = true
 is_gap_kind _ = false
 
+-- an identifier?
 abbrev pub is_ident_kind : Kind → Bool
 is_ident_kind Ident = true
 is_ident_kind _ = false
 
+-- an at-keyword?
 abbrev pub is_at_kind : Kind → Bool
 is_at_kind At = true
 is_at_kind _ = false
 
+-- a colon?
 abbrev pub is_colon_kind : Kind → Bool
 is_colon_kind Colon = true
 is_colon_kind _ = false
 
+-- a semicolon?
 abbrev pub is_semicolon_kind : Kind → Bool
 is_semicolon_kind Semicolon = true
 is_semicolon_kind _ = false
 
+-- a Delim?
 abbrev pub is_delim_kind : Kind → Bool
 is_delim_kind Delim = true
 is_delim_kind _ = false
@@ -67,19 +76,23 @@ is_delim_kind _ = false
 abbrev pub is_gap : Component → Bool
 is_gap c = is_single c && is_gap_kind (head c).kind
 
+-- an identifier
 abbrev pub is_ident : Component → Bool
 is_ident c = is_single c && is_ident_kind (head c).kind
 
+-- an at-keyword
 abbrev pub is_at_keyword : Component → Bool
 is_at_keyword c = is_single c && is_at_kind (head c).kind
 
+-- a colon
 abbrev pub is_colon : Component → Bool
 is_colon c = is_single c && is_colon_kind (head c).kind
 
+-- a semicolon
 abbrev pub is_semicolon : Component → Bool
 is_semicolon c = is_single c && is_semicolon_kind (head c).kind
 
--- a `!` that stands alone
+-- the Delim `!`
 abbrev pub is_bang : Component → Bool
 is_bang c = is_single c && (is_delim_kind (head c).kind && is_text (head c).text (codes "!"))
 

@@ -1,4 +1,4 @@
--- Lists cut at marks, and without white space and comments at their ends.
+-- Lists cut at marks, as rules and declarations are (CSS Syntax 3, section 5.4), and without white space and comments at their ends.
 use Rattle.std.specs.Prelude.{ℕ, List, [], ◌∷◌, ◌+◌, ◌≡◌, Bool, Option, Some, None, if◌then◌else◌, drop, slice_get, slice_range, MatchOption}
 use Rattle.std.specs.List.{list_all}
 use Rattle.css_tokens.specs.declared.component.Component.{Component}
@@ -9,6 +9,7 @@ pub record Cut : Type 0 where
   pub front : List Component
   pub mark : Option Component
 
+-- the cuts, with one more component at the start of the first
 abbrev pub with_front : Component → List Cut → List Cut
 with_front c [] = []
 with_front c (cut ∷ cuts) = record { front = c ∷ cut.front; mark = cut.mark } ∷ cuts
@@ -28,6 +29,7 @@ abbrev pub trimmed_end : List Component → List Component
 trimmed_end [] = []
 trimmed_end (c ∷ cs) = if list_all is_gap (c ∷ cs) then [] else c ∷ trimmed_end cs
 
+-- without white space and comments at either end
 abbrev pub trimmed : List Component → List Component
 trimmed cs = trimmed_end (trimmed_start cs)
 

@@ -35,6 +35,7 @@ value_of (value ∷ []) = Some (trimmed value.front, false)
 value_of (value ∷ mark ∷ []) = if is_important (trimmed mark.front) then Some (trimmed value.front, true) else None
 value_of (value ∷ mark ∷ more ∷ cuts) = None
 
+-- the declaration of this name and this value, where there is a value that the property may have
 abbrev pub declared : Piece → Option (List Component × Bool) → Option Declaration
 declared name None = None
 declared name (Some value) =
@@ -42,6 +43,7 @@ declared name (Some value) =
     then Some (record { name = property_name name.text; value = value.0; important = value.1; at = name.at })
     else None
 
+-- the declaration of this name whose value stands in what is behind the colon, where there is a colon
 abbrev pub declared_after : Piece → Option (List Component) → Option Declaration
 declared_after name None = None
 declared_after name (Some tail) = declared name (value_of (cuts is_bang tail))

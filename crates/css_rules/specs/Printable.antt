@@ -1,4 +1,4 @@
--- Which runs of declarations print as a text that reads as them again.
+-- Which runs of declarations print as a text that reads as them again (CSS Syntax 3, section 10).
 use Rattle.std.specs.Prelude.{List, [], ◌∷◌, Bool, true, false, not, ◌≡◌, if◌then◌else◌}
 use Rattle.std.specs.List.{list_any, AllByRecursion}
 use Rattle.css_tokens.specs.declared.component.Component.{Component}
@@ -21,19 +21,20 @@ is_parent (Class name) = false
 is_parent (Id name) = false
 is_parent Parent = true
 
+-- is the nesting selector in the compound?
 abbrev pub has_parent : BareCompound → Bool
 has_parent compound = list_any is_parent compound.simples
 
--- is the nesting selector in it?
+-- is the nesting selector in any compound of the selector?
 abbrev pub is_nesting : BareSelector → Bool
 is_nesting s = if has_parent s.first then true else list_any (λ link. has_parent link.1) s.rest
 
--- no white space and no comment stands in front
+-- does neither white space nor a comment stand in front?
 abbrev pub begins_solid : List Component → Bool
 begins_solid [] = true
 begins_solid (c ∷ cs) = not (is_gap c)
 
--- a declaration that is written as it was read
+-- a declaration whose text reads as it again: a plain name that is not refused, and a value that fits it, without white space or a comment in front and without a `!`, a `;` or a refused token
 pub record IsPrintableDeclaration (d : Declaration) : Type 0 where
   pub name : is_plain_name d.name ≡ true
   pub property : property_name d.name ≡ d.name
@@ -45,11 +46,12 @@ pub record IsPrintableDeclaration (d : Declaration) : Type 0 where
   pub formed : all_formed d.value ≡ true
   pub unsought : sought_in (if is_custom d.name then RevertLayer else RevertLayerOrUrl) d.value ≡ []
 
--- a run of one rule that is not nested, with a declaration at least
+-- a run of a rule that is not nested, whose selectors have a spelling, with a declaration at least, and each declaration so
 pub record IsPrintable (run : Run) : Type 0 where
   pub selectors : (list : List BareSelector) × (run.chain ≡ list ∷ []) × (is_readable_list list ≡ true) × (list_any is_nesting list ≡ false)
   pub some : (first : Declaration) × (more : List Declaration) × (run.declarations ≡ first ∷ more)
   pub each : AllByRecursion IsPrintableDeclaration run.declarations
 
+-- each of the runs is so
 abbrev pub ArePrintable : List Run → Type 0
 ArePrintable runs = AllByRecursion IsPrintable runs

@@ -12,6 +12,7 @@ use Rattle.css_rules.specs.declared.refusal.Sought.{Sought}
 use Rattle.css_rules.specs.declared.refusal.Sought.TheVariants.{ColonOrBracket, Ampersand, RevertLayer, RevertLayerOrUrl}
 use Rattle.css_rules.specs.Components.{is_keyword}
 
+-- the place that a refusal names
 abbrev pub place_of : Refusal → ℕ
 place_of (Syntax at) = at
 place_of (Unbuilt at) = at
@@ -23,46 +24,52 @@ sooner (Syntax a) (Unbuilt b) = if nat_lt a b then Syntax a else Unbuilt b
 sooner (Unbuilt a) (Syntax b) = if nat_lt b a then Syntax b else Unbuilt a
 sooner (Unbuilt a) (Unbuilt b) = if nat_lt b a then Unbuilt b else Unbuilt a
 
+-- the refusal that is named of two, each of which may be missing
 abbrev pub sooner_of : Option Refusal → Option Refusal → Option Refusal
 sooner_of None other = other
 sooner_of (Some a) None = Some a
 sooner_of (Some a) (Some b) = Some (sooner a b)
 
--- the refusal that is named, where there is any
+-- of all these refusals the one that is named, where there is any: the one at the least place
 abbrev pub first_refusal : List Refusal → Option Refusal
 first_refusal [] = None
 first_refusal (refusal ∷ refusals) = sooner_of (Some refusal) (first_refusal refusals)
 
+-- a colon, or `[`: what a pseudo-class or an attribute selector begins with (Selectors 4, sections 3.5 and 6)
 abbrev pub is_colon_or_bracket : Kind → List ℕ → Bool
 is_colon_or_bracket Colon text = true
 is_colon_or_bracket Open text = is_text text (codes "[")
 is_colon_or_bracket _ text = false
 
+-- the nesting selector `&` (CSS Nesting 1, section 3)
 abbrev pub is_ampersand : Kind → List ℕ → Bool
 is_ampersand Delim text = is_text text (codes "&")
 is_ampersand _ text = false
 
+-- the keyword `revert-layer`, in any case of letters (CSS Cascading 5, section 7.3.5)
 abbrev pub is_revert_layer : Kind → List ℕ → Bool
 is_revert_layer Ident text = is_keyword (codes "revert-layer") text
 is_revert_layer _ text = false
 
+-- a Url, or the Function `url(` in any case of letters (CSS Syntax 3, section 4.3.4)
 abbrev pub is_url : Kind → List ℕ → Bool
 is_url Url text = true
 is_url Function text = is_keyword (codes "url(") text
 is_url _ text = false
 
--- the tokens of constructs that are not built yet
+-- is it a token of this construct, which is not built yet?
 abbrev pub is_sought : Sought → Piece → Bool
 is_sought ColonOrBracket token = is_colon_or_bracket token.kind token.text
 is_sought Ampersand token = is_ampersand token.kind token.text
 is_sought RevertLayer token = is_revert_layer token.kind token.text
 is_sought RevertLayerOrUrl token = is_revert_layer token.kind token.text || is_url token.kind token.text
 
--- where the first such token of these components stands, at any depth
+-- the refusal of this token as not built yet, where there is a token
 abbrev pub unbuilt_at : Option Piece → List Refusal
 unbuilt_at None = []
 unbuilt_at (Some token) = Unbuilt token.at ∷ []
 
+-- the refusal at the first such token of these components, at any depth, where there is one
 abbrev pub sought_in : Sought → List Component → List Refusal
 sought_in sought cs = unbuilt_at (find (is_sought sought) (pieces_all cs))
 
@@ -71,7 +78,7 @@ abbrev pub holds : List ℕ → List ℕ → Bool
 holds word [] = starts_with nat_eq [] word
 holds word (c ∷ text) = starts_with nat_eq (c ∷ text) word || holds word text
 
--- the properties that later stages rewrite
+-- The properties that later stages rewrite (CSS Logical 1), told by the name alone: each name that holds `inline` or `block` counts, a custom one too.
 abbrev pub is_unbuilt_property : List ℕ → Bool
 is_unbuilt_property name =
     holds (codes "inline") name || (holds (codes "block") name || (starts_with nat_eq name (codes "inset")

@@ -1,4 +1,4 @@
--- What a sheet says, places aside: its runs of declarations in order of position, each with the selector lists round it.
+-- What a sheet says, places aside: its runs of declarations in order of position, each with the selector lists round it (CSS Nesting 1, section 3).
 use Rattle.std.specs.Prelude.{ℕ, List, [], ◌∷◌, ◌++◌, map, flat_map, Bool}
 use Rattle.css_tokens.specs.Values.{value_text}
 use Rattle.css_rules.specs.declared.sheet.Declaration.{Declaration}
@@ -14,12 +14,13 @@ use Rattle.css_rules.specs.declared.sheet.Item.TheFolds.{fold-Item, fold_out-Ite
 use Rattle.css_rules.specs.declared.sheet.Sheet.{Sheet}
 use Rattle.css_rules.specs.BareSelectors.{BareSelector, bare_list}
 
--- a declaration, with the text of its value
+-- a declaration without its place, and with its value as text
 pub record BareDeclaration : Type 0 where
   pub name : List ℕ
   pub value : List ℕ
   pub important : Bool
 
+-- the declaration without its place, and with its value as the text that it prints as
 abbrev pub bare_declaration : Declaration → BareDeclaration
 bare_declaration d = record { name = d.name; value = value_text d.value; important = d.important }
 
@@ -28,10 +29,12 @@ pub record Run : Type 0 where
   pub chain : List (List BareSelector)
   pub declarations : List Declaration
 
+-- a run with the texts of the values, and no places
 pub record BareRun : Type 0 where
   pub chain : List (List BareSelector)
   pub declarations : List BareDeclaration
 
+-- the run with the texts of its values, and no places
 abbrev pub bare_run : Run → BareRun
 bare_run run = record { chain = run.chain; declarations = map bare_declaration run.declarations }
 
@@ -39,13 +42,16 @@ bare_run run = record { chain = run.chain; declarations = map bare_declaration r
 abbrev pub Contribution : Type 0
 Contribution = List (List BareSelector) → List Run
 
+-- the runs of an item inside these selector lists: those of a style rule, or one of the declarations
 abbrev pub item_runs : Item-F Contribution Contribution → Contribution
 item_runs (Style runs) chain = runs chain
 item_runs (Plain declarations) chain = record { chain = chain; declarations = declarations } ∷ []
 
+-- the runs of the items of a style rule, inside its own selector list too
 abbrev pub style_runs : Style-F Contribution Contribution → Contribution
 style_runs style chain = flat_map (λ (runs : Contribution). runs (chain ++ bare_list style.selectors ∷ [])) style.items
 
+-- the runs of an item inside these selector lists
 abbrev pub runs_within : Item → Contribution
 runs_within = fold-Item Contribution Contribution item_runs style_runs
 
@@ -60,9 +66,11 @@ bare_runs sheet = map bare_run (runs_of sheet)
 abbrev layer_runs : Item-F Item style.Style → Contribution
 layer_runs v = item_runs (item.map-Item Item style.Style Contribution Contribution (fold-Item Contribution Contribution item_runs style_runs) (style.fold-Style Contribution Contribution item_runs style_runs) v)
 
+-- Declarations are one run, inside the selector lists round them.
 pub runs_within-Plain : (ds : List Declaration) (chain : List (List BareSelector)) → runs_within (item.Plain ds) chain ≡ record { chain = chain; declarations = ds } ∷ []
 runs_within-Plain ds chain = ap (λ (f : Contribution). f chain) (fold_out-Item Contribution Contribution item_runs style_runs (item.Plain ds) ∙ ap layer_runs (outs-Plain ds))
 
+-- A style rule has the runs of its items, inside its own selector list too.
 pub runs_within-Style : (s : style.Style) (chain : List (List BareSelector)) → runs_within (item.Style s) chain ≡ flat_map (λ inner. runs_within inner (chain ++ bare_list s.selectors ∷ [])) s.items
 runs_within-Style s chain =
     ap (λ (f : Contribution). f chain) (fold_out-Item Contribution Contribution item_runs style_runs (item.Style s) ∙ ap layer_runs (outs-Style s) ∙ style.fold_out-Style Contribution Contribution item_runs style_runs s)

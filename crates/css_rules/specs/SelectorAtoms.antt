@@ -1,4 +1,4 @@
--- Which words stand next to each other in the text of a selector list.
+-- Which words stand next to each other in the text of a selector list (Selectors 4, section 18, Grammar; CSSOM, section 5.2).
 use Rattle.std.specs.Prelude.{ℕ, List, [], ◌∷◌, ◌++◌, Bool, true, false, not, ◌&&◌, flat_map, codes, Option, Some, None}
 use Rattle.css_tokens.specs.Piece.{Word}
 use Rattle.css_rules.specs.declared.selector.Combinator.{Combinator}
@@ -26,6 +26,7 @@ pub data Atom : Type 0 where
   tilde : Atom
   comma : Atom
 
+-- the word that an atom stands for
 abbrev pub atom_word : Atom → Word
 atom_word (name n) = words.ident n
 atom_word (hash n) = words.hash n
@@ -38,48 +39,58 @@ atom_word plus = words.delim (codes "+")
 atom_word tilde = words.delim (codes "~")
 atom_word comma = words.comma
 
+-- the atoms of a type selector; none where none is written
 abbrev pub type_atoms : TypeName → List Atom
 type_atoms types.None = []
 type_atoms types.Universal = star ∷ []
 type_atoms (types.Name n) = name n ∷ []
 
+-- the atoms of a class, an id or `&`
 abbrev pub simple_atoms : Simple → List Atom
 simple_atoms (simples.Class n) = dot ∷ name n ∷ []
 simple_atoms (simples.Id n) = hash n ∷ []
 simple_atoms simples.Parent = amp ∷ []
 
+-- the atoms of a compound: its type selector, and then its other simple selectors
 abbrev pub compound_atoms : BareCompound → List Atom
 compound_atoms k = type_atoms k.kind ++ flat_map simple_atoms k.simples
 
+-- the atoms of the child combinator: a space before `>` where the text before ends in `--`
 abbrev pub child_atoms : Bool → List Atom
 child_atoms true = space ∷ greater ∷ []
 child_atoms false = greater ∷ []
 
+-- the atoms of a combinator, where the text before it ends in `--` or does not
 abbrev pub combinator_atoms : Bool → Combinator → List Atom
 combinator_atoms dashes combinators.Descendant = space ∷ []
 combinator_atoms dashes combinators.Child = child_atoms dashes
 combinator_atoms dashes combinators.Next = plus ∷ []
 combinator_atoms dashes combinators.Later = tilde ∷ []
 
+-- the atoms of combinators, each with the compound behind it, where the text before them ends in `--` or does not
 abbrev pub links_atoms : Bool → List (Combinator × BareCompound) → List Atom
 links_atoms dashes [] = []
 links_atoms dashes (l ∷ ls) = combinator_atoms dashes l.0 ++ (compound_atoms l.1 ++ links_atoms (ends_in_dashes (compound_text l.1)) ls)
 
+-- the atoms of a leading combinator, where there is one
 abbrev pub lead_atoms : Option Combinator → List Atom
 lead_atoms None = []
 lead_atoms (Some combinator) = combinator_atoms false combinator
 
+-- the atoms of a selector: compounds with combinators between them
 abbrev pub selector_atoms : BareSelector → List Atom
 selector_atoms b = lead_atoms b.lead ++ (compound_atoms b.first ++ links_atoms (ends_in_dashes (compound_text b.first)) b.rest)
 
+-- the atoms of further selectors, each behind a comma
 abbrev pub more_atoms : List BareSelector → List Atom
 more_atoms bs = flat_map (λ b. comma ∷ selector_atoms b) bs
 
+-- the atoms of a selector list: selectors with commas between them
 abbrev pub list_atoms : List BareSelector → List Atom
 list_atoms [] = []
 list_atoms (b ∷ bs) = selector_atoms b ++ more_atoms bs
 
--- Names spell Idents.
+-- A name, and that of a hash, is plain.
 abbrev pub is_spelled_atom : Atom → Bool
 is_spelled_atom (name n) = is_plain_name n
 is_spelled_atom (hash n) = is_plain_name n
@@ -144,6 +155,7 @@ is_behind_space plus = false
 is_behind_space tilde = false
 is_behind_space comma = false
 
+-- is it a name?
 abbrev pub is_name : Atom → Bool
 is_name (name n) = true
 is_name (hash n) = false

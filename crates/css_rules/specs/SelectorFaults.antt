@@ -1,4 +1,4 @@
--- What a refusal of a selector list says.
+-- What a refusal of a selector list says (Selectors 4, section 18, Grammar).
 use Rattle.std.specs.Prelude.{ℕ, List, [], ◌∷◌, ◌≡◌, Option, Some, None}
 use Rattle.css_rules.specs.declared.selector.read.SelectorFault.{SelectorFault}
 use Rattle.css_rules.specs.declared.selector.read.SelectorFault.TheVariants.{Syntax, Memory}
@@ -8,6 +8,7 @@ abbrev pub FaultIs : SelectorFault → Option ℕ → Type 0
 FaultIs (Syntax at) fault = fault ≡ Some at
 FaultIs Memory fault = Unit {0}
 
+-- the first of these places, where there is any
 abbrev pub first_of : List ℕ → Option ℕ
 first_of [] = None
 first_of (at ∷ faults) = Some at

@@ -1,4 +1,4 @@
--- A selector that is read from left to right, and the list in which it stands.
+-- A selector that is read from left to right, and the list in which it stands (Selectors 4, section 18, Grammar).
 use Rattle.std.specs.Prelude.{ℕ, List, [], ◌∷◌, ◌++◌, Option, Some, None, is_some, unwrap_or, if◌then◌else◌}
 use Rattle.std.specs.Option.{option_or}
 use Rattle.std.specs.List.{cons_option, filter_map}
@@ -22,6 +22,7 @@ use Rattle.css_rules.specs.declared.selector.read.Pending.{Pending}
 use Rattle.css_rules.specs.Signs.{sign_of, place_of, is_gap}
 use Rattle.css_rules.specs.Selectors.{cut_at_commas, selector_of, fault_of}
 
+-- a combinator with the compound behind it
 abbrev pub link : Combinator → Compound → Link
 link combinator compound = record { combinator = combinator; compound = compound }
 
@@ -35,12 +36,15 @@ abbrev pub chained : ℕ → Front → Compound → List Link → Selector
 chained at Nothing compound links = record { lead = None; first = compound; rest = links; at = at }
 chained at (Joined first rest before) compound links = record { lead = None; first = first; rest = rest ++ link before compound ∷ links; at = at }
 
+-- the compound of this type selector, without other parts
 abbrev pub of_type : TypeName → Compound
 of_type kind = record { kind = kind; parts = [] }
 
+-- the compound with one more part, which stands at this place
 abbrev pub with_simple : Compound → Simple → ℕ → Compound
 with_simple compound simple at = record { kind = compound.kind; parts = compound.parts ++ record { simple = simple; at = at } ∷ [] }
 
+-- what a type selector makes of a reading: a compound begins with it
 abbrev pub on_type : TypeName → Reading → Reading
 on_type kind (Due front) = Inside front (of_type kind)
 on_type kind (Behind front compound) = Inside (joined front compound combinators.Descendant) (of_type kind)
@@ -48,6 +52,7 @@ on_type kind (Inside front compound) = Failed
 on_type kind (Dotted front compound at) = Failed
 on_type kind Failed = Failed
 
+-- what a name makes of a reading: a class behind a `.`, else a type selector
 abbrev pub on_name : List ℕ → Reading → Reading
 on_name name (Dotted front compound at) = Inside front (with_simple compound (simples.Class name) at)
 on_name name (Due front) = on_type (types.Name name) (Due front)
@@ -55,6 +60,7 @@ on_name name (Behind front compound) = on_type (types.Name name) (Behind front c
 on_name name (Inside front compound) = Failed
 on_name name Failed = Failed
 
+-- what a `.` makes of a reading: the name of a class has to follow
 abbrev pub on_dot : ℕ → Reading → Reading
 on_dot at (Due front) = Dotted front (of_type types.None) at
 on_dot at (Inside front compound) = Dotted front compound at
@@ -62,6 +68,7 @@ on_dot at (Behind front compound) = Dotted (joined front compound combinators.De
 on_dot at (Dotted front compound dot) = Failed
 on_dot at Failed = Failed
 
+-- what an id or `&` makes of a reading: one more part of a compound
 abbrev pub on_part : Simple → ℕ → Reading → Reading
 on_part simple at (Due front) = Inside front (with_simple (of_type types.None) simple at)
 on_part simple at (Inside front compound) = Inside front (with_simple compound simple at)
@@ -69,6 +76,7 @@ on_part simple at (Behind front compound) = Inside (joined front compound combin
 on_part simple at (Dotted front compound dot) = Failed
 on_part simple at Failed = Failed
 
+-- what white space makes of a reading: behind a compound it may become a combinator
 abbrev pub on_white : Reading → Reading
 on_white (Due front) = Due front
 on_white (Inside front compound) = Behind front compound
@@ -76,6 +84,7 @@ on_white (Behind front compound) = Behind front compound
 on_white (Dotted front compound at) = Failed
 on_white Failed = Failed
 
+-- what `>`, `+` or `~` makes of a reading: a compound has to follow
 abbrev pub on_combinator : Combinator → Reading → Reading
 on_combinator combinator (Inside front compound) = Due (joined front compound combinator)
 on_combinator combinator (Behind front compound) = Due (joined front compound combinator)
@@ -105,19 +114,24 @@ concluded at (Due front) = None
 concluded at (Dotted front compound dot) = None
 concluded at Failed = None
 
+-- nothing is read of the member of the list
 abbrev pub fresh : Pending
 fresh = record { reading = Due Nothing; place = None }
 
+-- what one more component makes of what is pending
 abbrev pub pending_step : Pending → Component → Pending
 pending_step p c = record { reading = step (sign_of c) p.reading; place = option_or p.place (if is_gap c then None else Some (place_of c)) }
 
+-- what components in a row make of what is pending
 abbrev pub pending_run : Pending → List Component → Pending
 pending_run p [] = p
 pending_run p (c ∷ cs) = pending_run (pending_step p c) cs
 
+-- the selector that is read, where the member may end here
 abbrev pub pending_selector : Pending → Option Selector
 pending_selector p = concluded (unwrap_or p.place 0) p.reading
 
+-- where the member is refused if it may not end here: at its first token that is neither white space nor a comment, else at this stop
 abbrev pub pending_fault : Pending → ℕ → Option ℕ
 pending_fault p stop = if is_some (pending_selector p) then None else Some (unwrap_or p.place stop)
 

@@ -1,4 +1,4 @@
--- Selectors and lists of them, read from component values (Selectors 4, section 17; CSS Nesting 1, section 3).
+-- Selectors and lists of them, read from component values (Selectors 4, section 18, Grammar; CSS Nesting 1, section 3).
 use Rattle.std.specs.Prelude.{ℕ, List, [], ◌∷◌, map, Option, Some, None, is_some, unwrap_or, option_map, not, if◌then◌else◌}
 use Rattle.std.specs.List.{find, filter_map}
 use Rattle.css_tokens.specs.declared.component.Component.{Component}
@@ -18,6 +18,7 @@ use Rattle.css_rules.specs.Signs.{sign_of, place_of, is_comma, is_gap}
 
 -- Compounds. Their signs hold no comment, white space or combinator.
 
+-- the parts with one more in front, where there are parts
 abbrev pub with_part : Simple → ℕ → Option (List Part) → Option (List Part)
 with_part simple at parts = option_map (λ ps. record { simple = simple; at = at } ∷ ps) parts
 
@@ -29,6 +30,7 @@ parts_of (Id name at ∷ ws) = with_part (simples.Id name) at (parts_of ws)
 parts_of (Parent at ∷ ws) = with_part simples.Parent at (parts_of ws)
 parts_of ws = None
 
+-- the compound of this type selector and these parts, where there are parts
 abbrev pub compound_with : TypeName → Option (List Part) → Option Compound
 compound_with kind parts = option_map (λ ps. record { kind = kind; parts = ps }) parts
 
@@ -64,6 +66,7 @@ sign_before Next ws = Next ∷ stripped ws
 sign_before Later ws = Later ∷ stripped ws
 sign_before w ws = w ∷ ws
 
+-- the signs without comments, and without white space that is no combinator, but for white space at the start
 abbrev pub spaced : List Sign → List Sign
 spaced [] = []
 spaced (w ∷ ws) = sign_before w (spaced ws)
@@ -79,9 +82,11 @@ pub record Runs : Type 0 where
   pub first : List Sign
   pub rest : List (Combinator × List Sign)
 
+-- the runs, with this combinator before the first, and nothing before that
 abbrev pub cut_by : Combinator → Runs → Runs
 cut_by combinator runs = record { first = []; rest = (combinator, runs.first) ∷ runs.rest }
 
+-- the runs, with one more sign in front
 abbrev pub run_before : Sign → Runs → Runs
 run_before White runs = cut_by combinators.Descendant runs
 run_before Child runs = cut_by combinators.Child runs
@@ -89,24 +94,29 @@ run_before Next runs = cut_by combinators.Next runs
 run_before Later runs = cut_by combinators.Later runs
 run_before w runs = record { first = w ∷ runs.first; rest = runs.rest }
 
+-- the signs cut at their combinators
 abbrev pub runs_of : List Sign → Runs
 runs_of [] = record { first = []; rest = [] }
 runs_of (w ∷ ws) = run_before w (runs_of ws)
 
+-- the links with one more in front, where there are a compound and links
 abbrev pub with_link : Combinator → Option Compound → Option (List Link) → Option (List Link)
 with_link combinator (Some compound) (Some links) = Some (record { combinator = combinator; compound = compound } ∷ links)
 with_link combinator None links = None
 with_link combinator (Some compound) None = None
 
+-- combinators, each with the compound that the signs behind it spell, where all spell one
 abbrev pub links_of : List (Combinator × List Sign) → Option (List Link)
 links_of [] = Some []
 links_of (run ∷ runs) = with_link run.0 (compound_of run.1) (links_of runs)
 
+-- the selector of this place, this first compound and these links, where there are both
 abbrev pub selector_with : ℕ → Option Compound → Option (List Link) → Option Selector
 selector_with at (Some first) (Some rest) = Some (record { lead = None; first = first; rest = rest; at = at })
 selector_with at None rest = None
 selector_with at (Some first) None = None
 
+-- the selector that the runs spell, where each spells a compound
 abbrev pub selector_of_runs : ℕ → Runs → Option Selector
 selector_of_runs at runs = selector_with at (compound_of runs.first) (links_of runs.rest)
 
@@ -129,9 +139,11 @@ pub record Member : Type 0 where
   pub components : List Component
   pub stop : Option ℕ
 
+-- a member in which nothing stands, before this comma or the end of the list
 abbrev pub empty_before : Option ℕ → Member
 empty_before stop = record { components = []; stop = stop }
 
+-- the member with one more component in front
 abbrev pub with_component : Component → Member → Member
 with_component c m = record { components = c ∷ m.components; stop = m.stop }
 
@@ -146,7 +158,7 @@ cut_at_commas (c ∷ cs) =
 abbrev pub members_of : List Component → List Member
 members_of cs = (cut_at_commas cs).0 ∷ (cut_at_commas cs).1
 
--- The place where a member without a reading is refused: its first token, or the comma behind it, or the end.
+-- The place where a member without a reading is refused: its first token that is neither white space nor a comment, or the comma behind it, or the end.
 abbrev pub fault_of : ℕ → Member → Option ℕ
 fault_of end m =
     if is_some (selector_of m.components) then None

@@ -8,7 +8,7 @@ use Rattle.css_rules.specs.BareSelectors.{BareSelector}
 use Rattle.css_rules.specs.Runs.{Run}
 use Rattle.css_rules.specs.SelectorTexts.{list_text}
 
--- an empty value prints as one space
+-- the text of a value; an empty one prints as one space
 abbrev pub printed_value : List Component → List ℕ
 printed_value [] = codes " "
 printed_value (c ∷ cs) = value_text (c ∷ cs)
@@ -17,9 +17,11 @@ printed_value (c ∷ cs) = value_text (c ∷ cs)
 abbrev pub importance_text : Bool → List ℕ
 importance_text important = if important then codes "!important" else []
 
+-- a name, a colon, the value, and the mark of importance
 abbrev pub declaration_text : Declaration → List ℕ
 declaration_text d = name_text d.name ++ (codes ":" ++ (printed_value d.value ++ importance_text d.important))
 
+-- further declarations, each behind a semicolon
 abbrev pub more_declarations : List Declaration → List ℕ
 more_declarations ds = flat_map (λ d. codes ";" ++ declaration_text d) ds
 
@@ -34,9 +36,10 @@ innermost [] = []
 innermost (list ∷ []) = list
 innermost (list ∷ more ∷ chain) = innermost (more ∷ chain)
 
--- a rule for each run, and a line feed behind it
+-- the style rule of a run: its innermost selector list, its block, and a line feed
 abbrev pub run_text : Run → List ℕ
 run_text run = list_text (innermost run.chain) ++ (codes "{" ++ (declarations_text run.declarations ++ (codes "}" ++ 10 ∷ [])))
 
+-- the style rules of all runs, one after another
 abbrev pub sheet_text : List Run → List ℕ
 sheet_text runs = flat_map run_text runs

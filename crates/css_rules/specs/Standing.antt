@@ -1,4 +1,4 @@
--- Values as they stand in a text.
+-- Values as they stand in a text (CSS Syntax 3, section 4).
 use Rattle.std.specs.Prelude.{ℕ, List, ◌++◌, ◌≡◌, true}
 use Rattle.std.specs.List.{AllByRecursion}
 use Rattle.css_tokens.specs.Again.{is_stop}
@@ -8,11 +8,12 @@ use Rattle.css_tokens.specs.Trees.{words_all}
 use Rattle.css_rules.specs.declared.sheet.Declaration.{Declaration}
 use Rattle.css_rules.specs.Runs.{Run}
 
--- the tokens of its value are read one after another in some text, before a stop
+-- the tokens of the declaration's value are read one after another in some text, before a stop
 pub record Stands (d : Declaration) : Type 0 where
   pub behind : List ℕ
   pub stop : is_stop (classes_of behind) ≡ true
   pub reads : ReadsTo (spelled (words_all d.value) ++ behind) (words_all d.value) behind
 
+-- each value of these runs stands so
 abbrev pub AllStand : List Run → Type 0
 AllStand runs = AllByRecursion (λ (run : Run). AllByRecursion Stands run.declarations) runs

@@ -1,4 +1,4 @@
--- What lets a text be read again as the words that it was made of.
+-- What lets a text be read again as the words that it was made of (CSS Syntax 3, section 10: reading what was serialized gives it back).
 use Rattle.std.specs.Prelude.{ℕ, List, [], ◌∷◌, ◌++◌, ◌≡◌, Bool, true, ◌||◌, ◌&&◌, not, codes}
 use Rattle.std.specs.List.{list_any}
 use Rattle.css_tokens.specs.declared.kind.Kind.{Kind}
@@ -14,11 +14,11 @@ use Rattle.css_tokens.specs.Tokens.{First, classes_of, quote_follows}
 abbrev pub StaysFirst : Word → List ℕ → Type 0
 StaysFirst w rest = First (w.text ++ rest) w
 
--- A stop is the end of the text, or a character that nothing but white space, comments and strings goes on with.
+-- the characters that no token goes on with but white space, a comment, a string or a Url: the stops
 abbrev pub stops : List Class
 stops = other_than (name ++ class.Dot ∷ class.Plus ∷ class.Percent ∷ class.Bang ∷ class.Greater ∷ class.OpenParen ∷ class.Star ∷ class.Backslash ∷ [])
 
--- does the text begin with a stop, or with a `!` and no `-` behind it?
+-- is the text empty, or does it begin with a stop, or with a `!` and no `-` behind it?
 abbrev pub is_stop : List Class → Bool
 is_stop [] = true
 is_stop (x ∷ s) = has stops x || (is_class class.Bang x && not (starts s class.Minus))
@@ -45,10 +45,11 @@ is_solid k = not (is_kind k kind.White) && not (is_kind k kind.Comment)
 abbrev pub is_end_kind : Kind → Bool
 is_end_kind k = list_any (is_kind k) (kind.White ∷ kind.Comment ∷ kind.Semicolon ∷ kind.Close ∷ [])
 
+-- the word of this kind and this text
 abbrev pub word_from : Kind → List ℕ → Word
 word_from k text = record { kind = k; text = text }
 
--- the words that stay first before any text
+-- words that stay the first token whatever text follows them
 abbrev pub marks : List Word
 marks =
     word_from kind.Open (codes "{")
@@ -84,9 +85,10 @@ after_ident = name ++ class.OpenParen ∷ class.Greater ∷ []
 abbrev pub after_name : List Class
 after_name = name ++ class.OpenParen ∷ []
 
--- what makes a number of a `.`, and what may make one of a `+`
+-- the digits: what makes a number of a `.` before it
 abbrev pub digit : List Class
 digit = class.Digit ∷ []
 
+-- the digits and `.`: what may make a number of a `+` before it
 abbrev pub digit_or_dot : List Class
 digit_or_dot = class.Digit ∷ class.Dot ∷ []

@@ -4,10 +4,11 @@ use Rattle.std.specs.List.{list_any}
 use Rattle.css_tokens.specs.declared.class.Class.{Class}
 use Rattle.css_tokens.specs.declared.class.Class.TheVariants as class
 
--- is the byte one of these, or one from the first to the last?
+-- is the byte one of these?
 abbrev pub is_among : List ℕ → ℕ → Bool
 is_among bytes b = list_any (nat_eq b) bytes
 
+-- is the byte between the first and the last, both included?
 abbrev pub is_from_to : ℕ → ℕ → ℕ → Bool
 is_from_to first last b = nat_le first b && nat_le b last
 
@@ -88,6 +89,7 @@ place_of class.Backslash = 26
 place_of class.High = 27
 place_of class.Control = 28
 
+-- are the two classes the same?
 abbrev pub is_class : Class → Class → Bool
 is_class a b = nat_eq (place_of a) (place_of b)
 
@@ -99,26 +101,31 @@ has set c = list_any (is_class c) set
 abbrev pub other_than : List Class → List Class
 other_than set = filter (λ c. not (has set c)) classes
 
--- white space, and the characters of names and of numbers; a character from U+0080 on is a name start, and so is each of its bytes here
+-- white space: space, tab, LF, CR and FF
 abbrev pub white : List Class
 white = class.Blank ∷ class.Newline ∷ []
 
+-- the characters that a name begins with: letters, `_`, and each byte of a character from U+0080 on (a letter `e` is a class of its own)
 abbrev pub name_start : List Class
 name_start = class.Exponent ∷ class.Letter ∷ class.High ∷ []
 
+-- the characters of names: those that begin one, digits and `-`
 abbrev pub name : List Class
 name = class.Exponent ∷ class.Letter ∷ class.High ∷ class.Digit ∷ class.Minus ∷ []
 
+-- the signs of numbers: `+` and `-`
 abbrev pub sign : List Class
 sign = class.Plus ∷ class.Minus ∷ []
 
--- what a text may hold, the inside of a string between these quotes, and that of a Url
+-- what a text may hold: every class but the control characters
 abbrev pub in_text : List Class
 in_text = other_than (class.Control ∷ [])
 
+-- what may stand between these quotes: neither the quote nor a newline, `\` or a control character
 abbrev pub in_string : Class → List Class
 in_string quote = other_than (quote ∷ class.Newline ∷ class.Backslash ∷ class.Control ∷ [])
 
+-- what may stand in the text of a Url: neither white space nor a quote, a parenthesis, `\` or a control character
 abbrev pub in_url : List Class
 in_url = other_than (class.Blank ∷ class.Newline ∷ class.DoubleQuote ∷ class.SingleQuote ∷ class.OpenParen ∷ class.CloseParen ∷ class.Backslash ∷ class.Control ∷ [])
 

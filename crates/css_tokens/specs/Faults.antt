@@ -1,4 +1,4 @@
--- What a fault of the reader of tokens says.
+-- What a fault of the reader of tokens says (CSS Syntax 3, section 4).
 use Rattle.std.specs.Prelude.{ℕ, List}
 use Rattle.css_tokens.specs.declared.reader.TokenFault.{TokenFault}
 use Rattle.css_tokens.specs.declared.reader.TokenFault.TheVariants.{Syntax, Memory}

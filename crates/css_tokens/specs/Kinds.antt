@@ -12,55 +12,71 @@ use Rattle.css_tokens.specs.Patterns.{Pattern, One, Many, Closed, ◌∣◌, ◌
 abbrev pub the : Class → Pattern
 the c = One (c ∷ [])
 
+-- white space: one or more characters of it
 abbrev pub white_space : Pattern
 white_space = some white
 
+-- a comment: `/*`, up to and with the first `*/`
 abbrev pub comment : Pattern
 comment = the class.Slash ⋅ the class.Star ⋅ Closed false
 
+-- an identifier: `--` and any characters of names, or an optional `-`, a name start and any characters of names
 abbrev pub ident : Pattern
 ident = (the class.Minus ⋅ the class.Minus ⋅ Many name) ∣ (optional (the class.Minus) ⋅ One name_start ⋅ Many name)
 
+-- a function token: an identifier and `(`
 abbrev pub function : Pattern
 function = ident ⋅ the class.OpenParen
 
+-- an at-keyword: `@` and an identifier
 abbrev pub at_keyword : Pattern
 at_keyword = the class.At ⋅ ident
 
+-- a hash: `#` and one or more characters of names
 abbrev pub hash : Pattern
 hash = the class.Hash ⋅ some name
 
+-- a string between these quotes
 abbrev pub quoted : Class → Pattern
 quoted quote = the quote ⋅ Many (in_string quote) ⋅ the quote
 
+-- a string, in double or in single quotes
 abbrev pub string : Pattern
 string = quoted class.DoubleQuote ∣ quoted class.SingleQuote
 
+-- one or more digits
 abbrev pub digits : Pattern
 digits = some (class.Digit ∷ [])
 
+-- the fraction of a number: `.` and digits
 abbrev pub fraction : Pattern
 fraction = the class.Dot ⋅ digits
 
+-- the exponent of a number: `e` or `E`, an optional sign and digits
 abbrev pub exponent : Pattern
 exponent = the class.Exponent ⋅ optional (One sign) ⋅ digits
 
+-- a number: an optional sign, digits with an optional fraction or a fraction alone, and an optional exponent
 abbrev pub number : Pattern
 number = optional (One sign) ⋅ ((digits ⋅ optional fraction) ∣ fraction) ⋅ optional exponent
 
+-- a percentage: a number and `%`
 abbrev pub percentage : Pattern
 percentage = number ⋅ the class.Percent
 
+-- a dimension: a number and an identifier as its unit
 abbrev pub dimension : Pattern
 dimension = number ⋅ ident
 
+-- the CDO token `<!--`
 abbrev pub cdo : Pattern
 cdo = the class.Less ⋅ the class.Bang ⋅ the class.Minus ⋅ the class.Minus
 
+-- the CDC token `-->`
 abbrev pub cdc : Pattern
 cdc = the class.Minus ⋅ the class.Minus ⋅ the class.Greater
 
--- what follows the `(` of a Url
+-- what follows the `(` of a Url: its text with optional white space round it, and `)`
 abbrev pub url_inside : Pattern
 url_inside = Many white ⋅ Many in_url ⋅ Many white ⋅ the class.CloseParen
 
@@ -70,6 +86,7 @@ pub record Row : Type 0 where
   pub pattern : Pattern
   pub barred : List Class
 
+-- a row of the table that bars no character
 abbrev pub row : Kind → Pattern → Row
 row kind pattern = record { kind = kind; pattern = pattern; barred = [] }
 
@@ -101,11 +118,12 @@ table =
 abbrev pub url_table : List Row
 url_table = row kind.Url url_inside ∷ []
 
--- does the text begin with this character, or with one of the set?
+-- does the text begin with a character of this class?
 abbrev pub starts : List Class → Class → Bool
 starts [] c = false
 starts (x ∷ s) c = is_class c x
 
+-- does the text begin with a character of one of these classes?
 abbrev pub begins : List Class → List Class → Bool
 begins set s = list_any (starts s) set
 
@@ -136,5 +154,6 @@ place_of_kind kind.Delim = 16
 place_of_kind kind.Cdo = 17
 place_of_kind kind.Cdc = 18
 
+-- are the two kinds the same?
 abbrev pub is_kind : Kind → Kind → Bool
 is_kind a b = nat_eq (place_of_kind a) (place_of_kind b)

@@ -11,6 +11,7 @@ use Rattle.css_tokens.specs.Characters.{has, is_class, in_text}
 use Rattle.css_tokens.specs.Patterns.{Pattern, Never, Empty, One, Many, Either, Then, Closed, fits}
 use Rattle.css_tokens.specs.Kinds.{Row, row, table, url_table, begins}
 
+-- do the two sets list the same classes in the same order?
 abbrev pub is_set : List Class → List Class → Bool
 is_set a b = pointwise is_class a b
 
@@ -36,6 +37,7 @@ holds (Many a) q = is_pattern (Many a) q
 holds (Then a b) q = is_pattern (Then a b) q
 holds (Closed b) q = is_pattern (Closed b) q
 
+-- is it the pattern `Never`?
 abbrev pub is_never : Pattern → Bool
 is_never Never = true
 is_never Empty = false
@@ -45,6 +47,7 @@ is_never (Either p q) = false
 is_never (Then p q) = false
 is_never (Closed b) = false
 
+-- is it the pattern `Empty`?
 abbrev pub is_blank : Pattern → Bool
 is_blank Never = false
 is_blank Empty = true
@@ -54,10 +57,11 @@ is_blank (Either p q) = false
 is_blank (Then p q) = false
 is_blank (Closed b) = false
 
--- the two patterns that fit what either fits, and what the one and then the other fit
+-- a pattern that fits what p fits and what q fits
 abbrev pub either : Pattern → Pattern → Pattern
 either p q = if is_never p then q else (if is_never q || holds p q then p else Either p q)
 
+-- a pattern that fits a text of p and one of q right behind it
 abbrev pub followed : Pattern → Pattern → Pattern
 followed p q = if is_never p then Never else (if is_blank p then q else Then p q)
 
@@ -71,13 +75,14 @@ derive x (Either p q) = either (derive x p) (derive x q)
 derive x (Then p q) = either (followed (derive x p) q) (if fits p [] then derive x q else Never)
 derive x (Closed starred) = if starred && is_class x class.Slash then Empty else (if has in_text x then Closed (is_class x class.Star) else Never)
 
--- what is left of a table
+-- what is left of a table once a character has been read, without the rows of which `Never` is left
 abbrev pub derived : Class → List Row → List Row
 derived x [] = []
 derived x (r ∷ rows) =
     let p = derive x r.pattern in
     if is_never p then derived x rows else record { kind = r.kind; pattern = p; barred = r.barred } ∷ derived x rows
 
+-- what is left of a table once these characters have been read
 abbrev pub after_all : List Class → List Row → List Row
 after_all [] rows = rows
 after_all (x ∷ s) rows = after_all s (derived x rows)
@@ -122,7 +127,7 @@ rows state.UrlAfter = after_all (class.Letter ∷ class.Blank ∷ []) url_table
 rows (state.End k) = row k Empty ∷ []
 rows state.Dead = []
 
--- the steps of the machine, group by group
+-- the state after the first character of a token
 abbrev pub from_start : Class → State
 from_start class.Blank = state.White
 from_start class.Newline = state.White
@@ -153,6 +158,7 @@ from_start class.Percent = state.End kind.Delim
 from_start class.Symbol = state.End kind.Delim
 from_start c = state.Dead
 
+-- the state after a further character of white space, a comment, a string or `<!--`
 abbrev pub from_text : State → Class → State
 from_text state.White class.Blank = state.White
 from_text state.White class.Newline = state.White
@@ -184,6 +190,7 @@ from_text state.LessBangMinus class.Minus = state.End kind.Cdo
 from_text state.LessBangMinus c = state.Dead
 from_text s c = state.Dead
 
+-- the state after a further character of a name, an at-keyword or a hash
 abbrev pub from_name : State → Class → State
 from_name state.Minus class.Minus = state.MinusMinus
 from_name state.Minus class.Exponent = state.Name
@@ -237,6 +244,7 @@ from_name state.HashName class.Minus = state.HashName
 from_name state.HashName c = state.Dead
 from_name s c = state.Dead
 
+-- the state after a further character of a number without an exponent, or of a unit
 abbrev pub from_number : State → Class → State
 from_number state.Plus class.Digit = state.Integer
 from_number state.Plus class.Dot = state.Point
@@ -273,6 +281,7 @@ from_number state.Unit class.Minus = state.Unit
 from_number state.Unit c = state.Dead
 from_number s c = state.Dead
 
+-- the state after a further character of a number with an exponent
 abbrev pub from_exponent : State → Class → State
 from_exponent state.Exponent class.Digit = state.ExponentDigits
 from_exponent state.Exponent class.Plus = state.ExponentPlus
@@ -311,6 +320,7 @@ from_exponent state.PlusDigits class.Percent = state.End kind.Percentage
 from_exponent state.PlusDigits c = state.Dead
 from_exponent s c = state.Dead
 
+-- the state after a further character of the inside of a Url
 abbrev pub from_url : State → Class → State
 from_url state.UrlStart class.Blank = state.UrlWhite
 from_url state.UrlStart class.Newline = state.UrlWhite
@@ -345,6 +355,7 @@ from_url state.UrlAfter class.CloseParen = state.End kind.Url
 from_url state.UrlAfter c = state.Dead
 from_url s c = state.Dead
 
+-- the state after one more character
 abbrev pub next : State → Class → State
 next state.Start c = from_start c
 next state.White c = from_text state.White c

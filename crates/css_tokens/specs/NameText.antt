@@ -1,4 +1,4 @@
--- How a name prints: the identifier serialization of CSSOM, which here escapes U+FEFF too.
+-- How a name prints: the identifier serialization of CSSOM, section 2.1, which here escapes U+FEFF too.
 use Rattle.std.specs.Prelude.{ℕ, List, [], ◌∷◌, ◌++◌, Bool, false, ◌||◌, ◌==◌, flat_map, if◌then◌else◌, codes, nat_le}
 use Rattle.std.specs.Char.{is_ascii_digit, is_ascii_alphanumeric, encode_utf8}
 use Rattle.std.specs.Str.{chars}
@@ -31,6 +31,7 @@ abbrev pub after_dash : List ℕ → List ℕ
 after_dash [] = []
 after_dash (c ∷ cs) = first_text c ++ flat_map char_text cs
 
+-- how the characters of a name print, from the first on
 abbrev pub chars_text : List ℕ → List ℕ
 chars_text [] = []
 chars_text (c ∷ cs) = first_text c ++ (if c == 45 then after_dash cs else flat_map char_text cs)

@@ -57,6 +57,7 @@ abbrev pub quote_of : List ℕ → ℕ
 quote_of [] = 39
 quote_of (b ∷ bs) = if b == 34 then 34 else 39
 
+-- the text without this quote at its start and at its end
 abbrev pub unquoted : ℕ → List ℕ → List ℕ
 unquoted quote text = before_byte quote (after_byte quote text)
 

@@ -1,4 +1,4 @@
--- What the tokens so far are made into: whole components, and blocks whose closing token is still to come.
+-- What the tokens so far are made into: whole components, and blocks whose closing token is still to come (CSS Syntax 3, section 5.4.8).
 use Rattle.std.specs.Prelude.{ℕ, List, [], ◌∷◌, ◌++◌, flat_map, map, reverse, Bool, ◌&&◌, ◌≡◌, Some, length}
 use Rattle.std.specs.List.{list_all}
 use Rattle.css_tokens.specs.declared.pairing.Nest.{Nest}
@@ -7,7 +7,7 @@ use Rattle.css_tokens.specs.Piece.{Piece}
 use Rattle.css_tokens.specs.Pairing.{awaited_next}
 use Rattle.css_tokens.specs.Trees.{opens, closing_text, pieces_all, all_formed}
 
--- the tokens that an open block ends, since the one around it opened
+-- the tokens from the start, or from behind the opening token of the block around, up to and with the opening token of this one
 abbrev pub opened_pieces : Opened → List Piece
 opened_pieces o = pieces_all o.before ++ o.opening ∷ []
 
@@ -15,6 +15,7 @@ opened_pieces o = pieces_all o.before ++ o.opening ∷ []
 abbrev pub nest_pieces : Nest → List Piece
 nest_pieces n = flat_map opened_pieces n.outer.items ++ pieces_all n.items
 
+-- the text that closes an open block
 abbrev pub opened_closing : Opened → List ℕ
 opened_closing o = closing_text o.opening.text
 
@@ -22,6 +23,7 @@ opened_closing o = closing_text o.opening.text
 abbrev pub nest_awaited : Nest → List (List ℕ)
 nest_awaited n = map opened_closing (reverse n.outer.items)
 
+-- does an open block begin with a token that opens, and are the components before it well formed?
 abbrev pub opened_formed : Opened → Bool
 opened_formed o = opens o.opening.kind && all_formed o.before
 

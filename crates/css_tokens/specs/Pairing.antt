@@ -1,4 +1,4 @@
--- How closing tokens match opening ones (CSS Syntax 3, section 5), told by the tokens alone.
+-- How closing tokens match opening ones (CSS Syntax 3, section 5.4.8), told by the tokens alone.
 use Rattle.std.specs.Prelude.{ℕ, ◌≡◌, ◌⊎◌, ◌≤◌, List, [], ◌∷◌, ◌++◌, length, take, Option, Some, None, if◌then◌else◌, option_and_then, unwrap_or, Bool, true, ◌&&◌, nat_le, nat_lt}
 use Rattle.css_tokens.specs.declared.pairing.ComponentFault.{ComponentFault}
 use Rattle.css_tokens.specs.declared.pairing.ComponentFault.TheVariants.{Syntax, Depth, Memory}
@@ -19,6 +19,7 @@ abbrev pub awaited_after : List (List ℕ) → List Piece → Option (List (List
 awaited_after waiting [] = Some waiting
 awaited_after waiting (t ∷ ts) = option_and_then (λ next. awaited_after next ts) (awaited_next waiting t)
 
+-- the texts that close the blocks which these tokens leave open, the innermost first; None where a closing token matches none
 abbrev pub awaited : List Piece → Option (List (List ℕ))
 awaited ts = awaited_after [] ts
 
@@ -30,7 +31,7 @@ depth ts = length (unwrap_or (awaited ts) [])
 abbrev pub IsShallow : List Piece → Type 0
 IsShallow ts = (n : ℕ) → depth (take n ts) ≤ 64
 
--- all brackets match
+-- all brackets match, and no more than 64 blocks are open at once
 pub record IsPaired (ts : List Piece) : Type 0 where
   pub all_closed : awaited ts ≡ Some []
   pub shallow : IsShallow ts

@@ -1,11 +1,12 @@
--- Patterns of characters, and the texts that they fit.
+-- Patterns of characters, and the texts that they fit; they stand for the diagrams of CSS Syntax 3, section 4.1.
 use Rattle.std.specs.Prelude.{List, [], ◌∷◌, Bool, true, false, ◌||◌, ◌&&◌, if◌then◌else◌}
 use Rattle.std.specs.List.{list_all}
 use Rattle.css_tokens.specs.declared.class.Class.{Class}
 use Rattle.css_tokens.specs.declared.class.Class.TheVariants as class
 use Rattle.css_tokens.specs.Characters.{has, is_class, in_text}
 
--- `Closed` is what follows the `/*` of a comment: up to and including the first `*/`. Its flag says that a `*` stands right before.
+-- `Never` fits no text, `Empty` the empty one, `One` a character of the set, `Many` any number of them, `Either` what one of two fits, and `Then` one after the other.
+-- `Closed` fits what follows the `/*` of a comment: up to and including the first `*/`. Its flag says that a `*` stands right before.
 pub data Pattern : Type 0 where
   Never : Pattern
   Empty : Pattern
@@ -15,21 +16,25 @@ pub data Pattern : Type 0 where
   Then : Pattern → Pattern → Pattern
   Closed : Bool → Pattern
 
+-- one pattern or the other
 infixr 30 ◌∣◌
 abbrev pub ◌∣◌ : Pattern → Pattern → Pattern
 p ∣ q = Either p q
 
+-- one pattern and then the other
 infixr 40 ◌⋅◌
 abbrev pub ◌⋅◌ : Pattern → Pattern → Pattern
 p ⋅ q = Then p q
 
--- nothing or p, and one or more characters of the set
+-- nothing, or what p fits
 abbrev pub optional : Pattern → Pattern
 optional p = p ∣ Empty
 
+-- one or more characters of the set
 abbrev pub some : List Class → Pattern
 some set = One set ⋅ Many set
 
+-- is the text empty?
 abbrev pub is_empty : List Class → Bool
 is_empty [] = true
 is_empty (x ∷ s) = false
@@ -49,6 +54,7 @@ abbrev pub is_closed : Bool → List Class → Bool
 is_closed starred [] = false
 is_closed starred (x ∷ s) = if starred && is_class x class.Slash then is_empty s else (has in_text x && is_closed (is_class x class.Star) s)
 
+-- does the pattern fit the whole text?
 abbrev pub fits : Pattern → List Class → Bool
 fits Never s = false
 fits Empty s = is_empty s

@@ -1,4 +1,4 @@
--- How a value is written, word by word: a gap waits until the next word shows that the value goes on.
+-- How a value is written, word by word: a gap waits until the next word shows that the value goes on (CSS Syntax 3, section 10).
 use Rattle.std.specs.Prelude.{ℕ, List, [], ◌∷◌, ◌++◌, if◌then◌else◌, codes, ◌≡◌, Result, Ok, Err}
 use Rattle.css_tokens.specs.declared.kind.Kind.{Kind}
 use Rattle.css_tokens.specs.declared.value.Pending.{Pending}
@@ -28,15 +28,16 @@ pending_text Nothing = []
 pending_text Comment = codes "/**/"
 pending_text Space = codes " "
 
--- what a word makes certain
+-- the text that a word lets be written: none for a gap, else what waits and the word
 abbrev pub word_text : Pending → Word → List ℕ
 word_text p w = if is_gap w.kind then [] else pending_text p ++ w.text
 
--- the same of words in a row
+-- the text that words in a row let be written
 abbrev pub texts_after : Pending → List Word → List ℕ
 texts_after p [] = []
 texts_after p (w ∷ ws) = word_text p w ++ texts_after (pending_next p w) ws
 
+-- what waits after words in a row
 abbrev pub pending_after : Pending → List Word → Pending
 pending_after p [] = p
 pending_after p (w ∷ ws) = pending_after (pending_next p w) ws

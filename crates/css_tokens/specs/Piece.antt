@@ -1,4 +1,4 @@
--- Tokens as contracts see them.
+-- Tokens as contracts see them (CSS Syntax 3, section 4).
 use Rattle.std.specs.Prelude.{ℕ, List, flat_map}
 use Rattle.css_tokens.specs.declared.kind.Kind.{Kind}
 
@@ -13,6 +13,7 @@ pub record Word : Type 0 where
   pub kind : Kind
   pub text : List ℕ
 
+-- the token without its place
 abbrev pub word_of : Piece → Word
 word_of p = record { kind = p.kind; text = p.text }
 

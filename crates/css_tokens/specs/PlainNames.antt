@@ -3,9 +3,11 @@ use Rattle.std.specs.Prelude.{ℕ, List, [], ◌∷◌, Bool, false, ◌&&◌, �
 use Rattle.std.specs.Char.{is_ascii_alphabetic, is_ascii_alphanumeric}
 use Rattle.std.specs.List.{list_all}
 
+-- an ASCII letter or `_`: the name starts below U+0080
 abbrev pub is_plain_start : ℕ → Bool
 is_plain_start b = is_ascii_alphabetic b || b == 95
 
+-- an ASCII letter, a digit, `_` or `-`: the characters of names below U+0080
 abbrev pub is_plain : ℕ → Bool
 is_plain b = is_ascii_alphanumeric b || b == 95 || b == 45
 

@@ -1,4 +1,4 @@
--- How a refusal of components is named.
+-- How a refusal of components is named (CSS Syntax 3, section 5.4.8).
 use Rattle.std.specs.Prelude.{◌≡◌, List, Result, Ok, Err}
 use Rattle.css_tokens.specs.declared.component.Component.{Component}
 use Rattle.css_tokens.specs.declared.pairing.ComponentFault.{ComponentFault}

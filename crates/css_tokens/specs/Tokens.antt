@@ -1,4 +1,4 @@
--- The tokens of a text: what its first token is, what its tokens are, and where reading stops.
+-- The tokens of a text: what its first token is, what its tokens are, and where reading stops (CSS Syntax 3, sections 4.3.1 and 4.3.4).
 use Rattle.std.specs.Prelude.{ℕ, ◌+◌, ◌<◌, ◌≤◌, List, [], ◌∷◌, map, length, take, drop, ◌≡◌, ◌⊎◌, Bool, true, false, ◌&&◌, ◌||◌, not, Option, Some, None, MatchOption, codes, nat_eq, nat_lt, if◌then◌else◌}
 use Rattle.std.specs.List.{list_all, position}
 use Rattle.std.specs.Option.{option_map, option_and_then}
@@ -13,9 +13,11 @@ use Rattle.css_tokens.specs.Kinds.{Row, table, url_table, url_inside, kind_of, i
 use Rattle.css_tokens.specs.Patterns.{fits}
 use Rattle.css_tokens.specs.Piece.{Piece, Word, word_of, spelled}
 
+-- the classes of the characters of a text, one for each byte
 abbrev pub classes_of : List ℕ → List Class
 classes_of text = map class_of text
 
+-- the one value where there is one, else the other
 abbrev pub or_else : {A : Type 0} → Option A → Option A → Option A
 or_else (Some x) other = Some x
 or_else None other = other
@@ -24,6 +26,7 @@ or_else None other = other
 abbrev pub as_front : ℕ → Kind → Kind × ℕ
 as_front n k = (k, n)
 
+-- the same front, longer by n characters
 abbrev pub longer : ℕ → Kind × ℕ → Kind × ℕ
 longer n front = (front.0, front.1 + n)
 
@@ -32,10 +35,11 @@ abbrev pub longest : (List Class → List Class → Option Kind) → List Class 
 longest kind [] = option_map (as_front 0) (kind [] [])
 longest kind (x ∷ s) = or_else (option_map (longer 1) (longest (λ front after. kind (x ∷ front) after) s)) (option_map (as_front 0) (kind [] (x ∷ s)))
 
+-- the longest front of the text that spells a kind of this table, and the first such kind
 abbrev pub front_of : List Row → List ℕ → Option (Kind × ℕ)
 front_of rows text = longest (kind_of rows) (classes_of text)
 
--- is this the Function `url(`, in any case of letters?
+-- is this the text `url(`, in any case of ASCII letters?
 abbrev pub is_url : List ℕ → Bool
 is_url text = pointwise nat_eq (map to_ascii_lowercase text) (codes "url(")
 
@@ -51,13 +55,15 @@ url_rule text front =
     then option_map (longer front.1) (front_of url_table (drop front.1 text))
     else Some front
 
+-- the first token of a text as its kind and its length, with the rule on `url(`
 abbrev pub first_front : List ℕ → Option (Kind × ℕ)
 first_front text = option_and_then (url_rule text) (front_of table text)
 
+-- the front of the text of this length, as a word of this kind
 abbrev pub word : List ℕ → Kind × ℕ → Word
 word text front = record { kind = front.0; text = take front.1 text }
 
--- w is the first token of the text: its longest front that spells a kind, and the first kind of the table that it spells
+-- w is the first token of the text: its longest front that spells a kind, and the first kind of the table that it spells, with the rule on `url(`
 abbrev pub First : List ℕ → Word → Type 0
 First text w = option_map (word text) (first_front text) ≡ Some w
 
@@ -66,6 +72,7 @@ abbrev pub IsStuck : List ℕ → Type 0
 IsStuck [] = ⊥
 IsStuck (b ∷ text) = first_front (b ∷ text) ≡ None
 
+-- is there a kind, and is it this one?
 abbrev pub names : Kind → Option Kind → Bool
 names k None = false
 names k (Some j) = is_kind k j
@@ -85,6 +92,7 @@ abbrev pub ReadsTo : List ℕ → List Word → List ℕ → Type 0
 ReadsTo text [] rest = text ≡ rest
 ReadsTo text (w ∷ ws) rest = First text w × (is_refused w.kind ≡ false) × ReadsTo (drop (length w.text) text) ws rest
 
+-- the whole text reads as these words
 abbrev pub Reads : List ℕ → List Word → Type 0
 Reads text words = ReadsTo text words []
 
@@ -93,6 +101,7 @@ abbrev pub IsPlaced : ℕ → List Piece → Type 0
 IsPlaced at [] = Unit {0}
 IsPlaced at (p ∷ ps) = (p.at ≡ at) × IsPlaced (at + length p.text) ps
 
+-- is the byte a control character, other than tab, LF, FF and CR?
 abbrev pub is_control : ℕ → Bool
 is_control b = is_class class.Control (class_of b)
 
@@ -118,6 +127,6 @@ pub record Begins (text : List ℕ) (p : Piece) : Type 0 where
   pub whole : length p.text ≤ length text
   pub some : 0 < length p.text
 
--- is it ASCII, with no escape?
+-- is it ASCII, without `\`?
 abbrev pub is_plain : List ℕ → Bool
 is_plain text = list_all (λ b. nat_lt b 128 && not (nat_eq b 92)) text

@@ -1,4 +1,4 @@
--- Runs of white space and comments, and how a value prints.
+-- Runs of white space and comments, and how a value prints (CSS Syntax 3, section 10).
 use Rattle.std.specs.Prelude.{ℕ, List, [], ◌∷◌, map, Bool, true, false, ◌&&◌, if◌then◌else◌, codes}
 use Rattle.css_tokens.specs.declared.kind.Kind.{Kind}
 use Rattle.css_tokens.specs.declared.kind.Kind.TheVariants.{White, Comment, Ident, Function, Url, At, Hash, String, Number, Percentage, Dimension, Colon, Semicolon, Comma, Open, Close, Delim, Cdo, Cdc}
@@ -54,6 +54,7 @@ is_gap Cdc = false
 abbrev pub short_text : Kind → List ℕ → List ℕ
 short_text kind text = if is_white kind then codes " " else (if is_gap kind then codes "/**/" else text)
 
+-- the word with white space as one space, and a comment as `/**/`
 abbrev pub short_word : Word → Word
 short_word w = record { kind = w.kind; text = short_text w.kind w.text }
 
@@ -78,6 +79,7 @@ before_gap kind [] = []
 before_gap kind (x ∷ []) = if is_gap (kind x) then [] else x ∷ []
 before_gap kind (x ∷ y ∷ ys) = x ∷ before_gap kind (y ∷ ys)
 
+-- the kind of a word
 abbrev pub word_kind : Word → Kind
 word_kind w = w.kind
 
@@ -86,8 +88,10 @@ word_kind w = w.kind
 abbrev pub printed_words : List Word → List Word
 printed_words ws = before_gap word_kind (after_gap word_kind (single_gaps word_kind (map short_word ws)))
 
+-- the words that the components of a value print as
 abbrev pub value_words : List Component → List Word
 value_words v = printed_words (words_all v)
 
+-- the text that a value prints as
 abbrev pub value_text : List Component → List ℕ
 value_text v = spelled (value_words v)
