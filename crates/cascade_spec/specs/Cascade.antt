@@ -27,19 +27,22 @@ pub record Shown : Type 0 where
   pub specific : Specificity
   pub value : List ℕ
 
+-- are both important, or both normal?
 abbrev pub same_importance : Bool → Bool → Bool
 same_importance a b = if a then b else not b
 
--- does the entry have the importance, is it active, and does it match?
+-- does the entry have the importance that is asked for, is it active, and does it match the subject?
 abbrev pub applies : Question → Around → Entry → Bool
 applies q around e = same_importance e.important q.important && (is_active q.environment e && around.holds q.subject)
 
+-- what an entry inside these selector lists shows to a question, where it applies and sets the longhand
 abbrev pub shown_with : Question → Around → Entry → Option Shown
 shown_with q around e =
     if applies q around e
     then option_map (λ value. record { layer = e.layer; specific = around.specific q.subject; value = value }) (value_set q.environment e q.longhand)
     else None
 
+-- what an entry shows to a question, where it shows anything
 abbrev pub shown_of : Question → Entry → Option Shown
 shown_of q e = shown_with q (around_all q.document e.chain) e
 

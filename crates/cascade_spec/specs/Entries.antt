@@ -16,6 +16,7 @@ pub record Entry : Type 0 where
   pub value : List ℕ
   pub important : Bool
 
+-- the entry of a declaration inside these selector lists, in no layer
 abbrev pub entry_of : List (List BareSelector) → BareDeclaration → Entry
 entry_of chain d = record { layer = []; chain = chain; name = d.name; value = d.value; important = d.important }
 
@@ -27,6 +28,7 @@ entries_of runs = flat_map (λ (run : BareRun). map (entry_of run.chain) run.dec
 abbrev pub is_rejected : Environment → Entry → Bool
 is_rejected env e = list_any (λ pair. is_text pair.0 e.name && is_text pair.1 e.value) env.rejected
 
+-- does the browser take the declaration?
 abbrev pub is_active : Environment → Entry → Bool
 is_active env e = not (is_rejected env e)
 
@@ -43,6 +45,7 @@ last_value name (pair ∷ pairs) = later (last_value name pairs)
 abbrev pub row_of : Environment → Entry → Option Shorthand
 row_of env e = find (λ (row : Shorthand). is_text row.name e.name && is_text row.value e.value) env.shorthands
 
+-- what an entry sets a longhand to, by this row or without one
 abbrev pub value_by : Option Shorthand → Entry → List ℕ → Option (List ℕ)
 value_by (Some row) e longhand = last_value longhand row.sets
 value_by None e longhand = if is_text e.name longhand then Some e.value else None

@@ -11,9 +11,11 @@ pub data LayerName : Type 0 where
   Named : List ℕ → LayerName
   Anonymous : ℕ → LayerName
 
+-- a layer: its name behind those of the layers round it, the outermost first; an empty path is no layer
 abbrev pub LayerPath : Type 0
 LayerPath = List LayerName
 
+-- are the two names the same?
 abbrev pub same_layer : LayerName → LayerName → Bool
 same_layer (Named a) (Named b) = is_text a b
 same_layer (Anonymous a) (Anonymous b) = nat_eq a b

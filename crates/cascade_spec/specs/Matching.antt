@@ -1,4 +1,4 @@
--- Which subjects a selector matches, and how specific it is (Selectors 4, sections 3, 14 and 17; CSS Nesting 1, section 3).
+-- Which subjects a selector matches, and how specific it is (Selectors 4, sections 3, 15 (Combinators) and 17 (Specificity); CSS Nesting 1, section 3).
 use Rattle.std.specs.Prelude.{ℕ, zero, suc, List, [], ◌∷◌, map, length, slice_get, Bool, true, false, ◌&&◌, ◌||◌, not, Option, Some, None, is_none, is_some, if◌then◌else◌, nat_eq, filter, fold}
 use Rattle.std.specs.List.{list_all, list_any}
 use Rattle.std.specs.Option.{option_and_then, option_map_or}
@@ -27,14 +27,17 @@ pub record Around : Type 0 where
   pub specific : Subject → Specificity
   pub most : Specificity
 
+-- the top of a sheet, where no rule is around: `&` matches nothing, and counts nothing
 abbrev pub top : Around
 top = record { nested = false; holds = λ subject. false; specific = λ subject. nothing; most = nothing }
 
 -- The tree of elements.
 
+-- the parent of an element, where it has one
 abbrev pub parent_of : Document → ℕ → Option ℕ
 parent_of doc n = option_and_then (λ (e : Element). e.parent) (slice_get doc.elements n)
 
+-- are both the same number, or both none?
 abbrev pub same_number : Option ℕ → Option ℕ → Bool
 same_number None None = true
 same_number (Some a) (Some b) = nat_eq a b
@@ -69,39 +72,44 @@ is_related doc Later test n = of_siblings_among doc test n n
 
 -- Selectors.
 
+-- does the type selector match the element? None and `*` match every one.
 abbrev pub type_holds : TypeName → Element → Bool
 type_holds types.None e = true
 type_holds types.Universal e = true
 type_holds (types.Name name) e = is_text name e.kind
 
--- `&` stands for what the rule around matches, and for no pseudo-element
+-- Does the simple selector match the element? `&` matches what the rule around matches, and no pseudo-element.
 abbrev pub simple_holds : Around → ℕ → Simple → Element → Bool
 simple_holds around n (Class name) e = list_any (is_text name) e.classes
 simple_holds around n (Id name) e = option_map_or (is_text name) e.id false
 simple_holds around n Parent e = around.holds (record { element = n; tail = None })
 
+-- do the type selector and each other simple selector of the compound match the element?
 abbrev pub compound_holds : Document → Around → BareCompound → ℕ → Bool
 compound_holds doc around compound n =
     option_map_or (λ e. type_holds compound.kind e && list_all (λ simple. simple_holds around n simple e) compound.simples) (slice_get doc.elements n) false
 
--- From the first compound on: the compound behind a combinator holds of an element to which one stands so of which what is before holds.
+-- From the first compound on: a compound behind a combinator matches an element where what is before matches one that stands to it as the combinator says.
 abbrev pub links_hold : Document → Around → (ℕ → Bool) → List (Combinator × BareCompound) → ℕ → Bool
 links_hold doc around before [] n = before n
 links_hold doc around before (link ∷ links) n =
     links_hold doc around (λ m. compound_holds doc around link.1 m && is_related doc link.0 before m) links n
 
--- is the nesting selector in it?
+-- is it the nesting selector?
 abbrev pub is_parent : Simple → Bool
 is_parent (Class name) = false
 is_parent (Id name) = false
 is_parent Parent = true
 
+-- is the nesting selector in any compound of the selector?
 abbrev pub has_parent : BareSelector → Bool
 has_parent s = list_any is_parent s.first.simples || list_any (λ link. list_any is_parent link.1.simples) s.rest
 
+-- the compound `&`
 abbrev pub parent_alone : BareCompound
 parent_alone = record { kind = types.None; simples = Parent ∷ [] }
 
+-- the selector with `&` and this combinator before it, where there is a combinator
 abbrev pub led_by : Option Combinator → BareSelector → BareSelector
 led_by None s = s
 led_by (Some combinator) s = record { lead = None; first = parent_alone; rest = (combinator, s.first) ∷ s.rest }
@@ -110,31 +118,37 @@ led_by (Some combinator) s = record { lead = None; first = parent_alone; rest = 
 abbrev pub implied : Bool → BareSelector → BareSelector
 implied nested s = led_by (if is_some s.lead then s.lead else (if nested && not (has_parent s) then Some Descendant else None)) s
 
--- does the selector match the subject?
+-- does the selector match the subject, with no `&` implied? It matches no pseudo-element.
 abbrev pub whole_holds : Document → Around → BareSelector → Subject → Bool
 whole_holds doc around s subject = is_none subject.tail && links_hold doc around (compound_holds doc around s.first) s.rest subject.element
 
+-- does the selector match the subject, with the `&` that is implied?
 abbrev pub selector_holds : Document → Around → BareSelector → Subject → Bool
 selector_holds doc around s subject = whole_holds doc around (implied around.nested s) subject
 
 -- Specificity.
 
+-- a type name counts as one type, `*` as nothing
 abbrev pub type_specificity : TypeName → Specificity
 type_specificity types.None = nothing
 type_specificity types.Universal = nothing
 type_specificity (types.Name name) = record { a = 0; b = 0; c = 1 }
 
+-- an id counts as one id, a class as one class, and `&` as the most specific member of the list around
 abbrev pub simple_specificity : Around → Simple → Specificity
 simple_specificity around (Class name) = record { a = 0; b = 1; c = 0 }
 simple_specificity around (Id name) = record { a = 1; b = 0; c = 0 }
 simple_specificity around Parent = around.most
 
+-- the sum of what the simple selectors of the compound count
 abbrev pub compound_specificity : Around → BareCompound → Specificity
 compound_specificity around compound = plus (type_specificity compound.kind) (sum_of (map (simple_specificity around) compound.simples))
 
+-- the sum of what the compounds of the selector count
 abbrev pub whole_specificity : Around → BareSelector → Specificity
 whole_specificity around s = plus (compound_specificity around s.first) (sum_of (map (λ link. compound_specificity around link.1) s.rest))
 
+-- how specific the selector is, with the `&` that is implied
 abbrev pub selector_specificity : Around → BareSelector → Specificity
 selector_specificity around s = whole_specificity around (implied around.nested s)
 
@@ -149,6 +163,6 @@ within doc around list = record {
   most = greatest (map (selector_specificity around) list);
 }
 
--- the selector lists of the enclosing style rules, outermost first
+-- what the selector lists of the enclosing style rules, the outermost first, are for a rule in them
 abbrev pub around_all : Document → List (List BareSelector) → Around
 around_all doc chain = fold (within doc) top chain

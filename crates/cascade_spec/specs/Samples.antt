@@ -17,6 +17,7 @@ use Rattle.cascade_spec.specs.Entries.{Entry, entry_of, entries_of}
 use Rattle.cascade_spec.specs.Contents.{Contents}
 use Rattle.cascade_spec.specs.Cascade.{Question, Shown}
 
+-- an element of this parent, type name, id and classes
 abbrev pub element : Option ℕ → String → Option (List ℕ) → List (List ℕ) → Element
 element parent kind id classes = record { parent = parent; kind = codes kind; id = id; scoped_id = None; classes = classes; scoped_classes = []; holds = []; tails = [] }
 
@@ -33,6 +34,7 @@ page = record {
       ∷ [];
 }
 
+-- an element itself, and none of its pseudo-elements
 abbrev pub whole : ℕ → Subject
 whole n = record { element = n; tail = None }
 
@@ -42,18 +44,23 @@ before n = record { element = n; tail = Some (codes "before") }
 
 -- Selectors.
 
+-- the compound `*`
 abbrev pub every : BareCompound
 every = record { kind = types.Universal; simples = [] }
 
+-- a compound of a type name alone
 abbrev pub kind : String → BareCompound
 kind name = record { kind = types.Name (codes name); simples = [] }
 
+-- a compound of a class alone
 abbrev pub class : String → BareCompound
 class name = record { kind = types.None; simples = Class (codes name) ∷ [] }
 
+-- a compound of an id alone
 abbrev pub id : String → BareCompound
 id name = record { kind = types.None; simples = Id (codes name) ∷ [] }
 
+-- the compound `&`
 abbrev pub parent : BareCompound
 parent = record { kind = types.None; simples = Parent ∷ [] }
 
@@ -61,12 +68,15 @@ parent = record { kind = types.None; simples = Parent ∷ [] }
 abbrev pub also : BareCompound → String → BareCompound
 also k name = record { kind = k.kind; simples = Class (codes name) ∷ k.simples }
 
+-- a selector of one compound
 abbrev pub one : BareCompound → BareSelector
 one k = record { lead = None; first = k; rest = [] }
 
+-- a selector of two compounds and the combinator between them
 abbrev pub two : BareCompound → Combinator → BareCompound → BareSelector
 two first combinator second = record { lead = None; first = first; rest = (combinator, second) ∷ [] }
 
+-- a selector of three compounds and the combinators between them
 abbrev pub three : BareCompound → Combinator → BareCompound → Combinator → BareCompound → BareSelector
 three first combinator second last third = record { lead = None; first = first; rest = (combinator, second) ∷ (last, third) ∷ [] }
 
@@ -86,17 +96,21 @@ inside = within page top either
 abbrev pub matched : Around → BareSelector → List ℕ
 matched around s = filter (λ n. selector_holds page around s (whole n)) (0 ∷ 1 ∷ 2 ∷ 3 ∷ 4 ∷ 5 ∷ [])
 
+-- ids, classes and type names
 abbrev pub specificity : ℕ → ℕ → ℕ → Specificity
 specificity a b c = record { a = a; b = b; c = c }
 
 -- Layers.
 
+-- a layer of this name
 abbrev pub layer : String → LayerPath
 layer name = LayerName.Named (codes name) ∷ []
 
+-- a layer in a layer, the outer name first
 abbrev pub sublayer : String → String → LayerPath
 sublayer name inner = LayerName.Named (codes name) ∷ LayerName.Named (codes inner) ∷ []
 
+-- the anonymous layer of this number
 abbrev pub unnamed : ℕ → LayerPath
 unnamed number = LayerName.Anonymous number ∷ []
 
@@ -110,15 +124,19 @@ seen path specific value = record { layer = path; specific = specific; value = c
 
 -- Rules.
 
+-- a declaration that is not important
 abbrev pub normal : String → String → BareDeclaration
 normal name value = record { name = codes name; value = codes value; important = false }
 
+-- an important declaration
 abbrev pub important : String → String → BareDeclaration
 important name value = record { name = codes name; value = codes value; important = true }
 
+-- the entry of a declaration with no selector list round it
 abbrev pub entry : BareDeclaration → Entry
 entry d = entry_of [] d
 
+-- a rule whose selector is one compound
 abbrev pub rule : BareCompound → List BareDeclaration → BareRun
 rule k declarations = record { chain = (one k ∷ []) ∷ []; declarations = declarations }
 
@@ -146,6 +164,7 @@ in_layer path d = record { layer = path; chain = (one every ∷ []) ∷ []; name
 abbrev pub row : String → String → List (List ℕ × List ℕ) → Shorthand
 row name value sets = record { name = codes name; value = codes value; sets = sets }
 
+-- a longhand, and the value that it is set to
 abbrev pub sets : String → String → List ℕ × List ℕ
 sets name value = (codes name, codes value)
 

@@ -101,7 +101,7 @@ IsFirstOfFile path found Memory = ⊥
 abbrev pub First : List (List ℕ) → Names → Status → Type 0
 First words files answer = MatchOption (entry_of words) (answer ≡ Usage Words) (λ path. IsFirstOfFile path (files path) answer)
 
--- over all words and files, one answer stands first
+-- over these words and files an answer stands first, and no more than one
 pub record HasFirst (words : List (List ℕ)) (files : Names) : Type 0 where
   pub some : (answer : Status) × First words files answer
   pub one : (a b : Status) → First words files a → First words files b → a ≡ b

@@ -31,17 +31,18 @@ pub record HasComponents (bytes : List ℕ) (components : List Component) : Type
   pub formed : IsTrue (all_formed components)
   pub paired : IsPaired (pieces_all components)
 
--- no token begins there, or no text may hold the character
+-- no token that is read begins there, or no text may hold the character
 abbrev pub HasStop : List ℕ → Code → ℕ → Type 0
 HasStop bytes code offset = (code ≡ Syntax) × StopsAt bytes offset
 
--- a bracket does not match, or is open at the end, or is nested too deep
+-- a bracket matches none, or is open at the end, or is nested too deep
 abbrev pub IsUnpaired : List Piece → ℕ → Code → ℕ → Type 0
 IsUnpaired tokens end Syntax offset = IsBracketFault tokens end (fault.Syntax offset)
 IsUnpaired tokens end Depth offset = IsBracketFault tokens end (fault.Depth offset)
 IsUnpaired tokens end Missing offset = ⊥
 IsUnpaired tokens end Unbuilt offset = ⊥
 
+-- the text has tokens, and their brackets have a fault of this cause at this place
 abbrev pub HasBracketFault : List ℕ → Code → ℕ → Type 0
 HasBracketFault bytes code offset = (tokens : List Piece) × HasTokens bytes tokens × IsUnpaired tokens (length bytes) code offset
 
@@ -52,6 +53,7 @@ IsRefused components Unbuilt offset = first_refusal (sheet_refusals components) 
 IsRefused components Depth offset = ⊥
 IsRefused components Missing offset = ⊥
 
+-- the text has component values, and the sheet of them is refused at this place, for this cause
 abbrev pub HasRefusal : List ℕ → Code → ℕ → Type 0
 HasRefusal bytes code offset = (components : List Component) × HasComponents bytes components × IsRefused components code offset
 
