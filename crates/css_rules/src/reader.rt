@@ -7,7 +7,7 @@ ghost use Rattle.css_rules.specs.Cuts.{trimmed};
 ghost use Rattle.css_rules.specs.Declarations.{declaration_of};
 ghost use Rattle.css_rules.specs.Refusals.{first_refusal, holds, is_unbuilt_property};
 ghost use Rattle.css_rules.specs.Selectors.{list_of, list_faults};
-ghost use Rattle.css_rules.specs.Sheets.{declarations_of, run_of, first_place, rule_of, rules_of, sheet_of, declaration_refusals, begins_rule, item_refusals, block_refusals, prelude_refusals, leftover_refusals, begins_at_rule, rule_refusals, sheet_refusals, IsNamed, IsLeast};
+ghost use Rattle.css_rules.specs.Sheets.{declarations_of, run_of, first_place, rule_of, rules_of, sheet_of, declaration_refusals, begins_rule, item_refusals, block_refusals, prelude_refusals, leftover_refusals, begins_at_rule, rule_refusals, sheet_refusals, fault_of, IsNamed, IsLeast};
 
 use crate::cuts::{Mark, end_of_cut, mark_at, trimmed};
 use crate::declaration::{begins_custom, is_custom, read_declaration};
@@ -301,8 +301,17 @@ pub fn read_sheet<'a>(
     let read = read_rules(alloc, text)?;
     match read.refusal {
         None => Ok(Sheet { items: read.value }),
-        Some(Refusal::Syntax(at)) => Err(RuleFault::Syntax(at)),
-        Some(Refusal::Unbuilt(at)) => Err(RuleFault::Unbuilt(at)),
+        Some(refusal) => Err(fault_of(refusal)),
+    }
+}
+
+/// The fault that names a refusal.
+fn fault_of(refusal: Refusal) -> RuleFault
+    ensures { result ≡ fault_of refusal }
+{
+    match refusal {
+        Refusal::Syntax(at) => RuleFault::Syntax(at),
+        Refusal::Unbuilt(at) => RuleFault::Unbuilt(at),
     }
 }
 
