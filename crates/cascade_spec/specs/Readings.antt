@@ -9,7 +9,7 @@ use Rattle.css_rules.specs.Runs.{bare_runs}
 use Rattle.cascade_spec.specs.Contents.{contents_of}
 use Rattle.cascade_spec.specs.Cascade.{Question, winner}
 
--- The text reads as these components, places aside: their words are its tokens, their brackets are paired, and nothing in them is refused.
+-- The text reads as these components, places aside: their words are its tokens, their brackets are paired to any depth, and nothing in them is refused.
 pub record ReadsAs (text : List ℕ) (components : List Component) : Type 0 where
   pub reads : Reads text (words_all components)
   pub formed : IsTrue (all_formed components)

@@ -21,7 +21,7 @@ use Rattle.cascade_spec.specs.Cascade.{Question, Shown}
 abbrev pub element : Option ℕ → String → Option (List ℕ) → List (List ℕ) → Element
 element parent kind id classes = record { parent = parent; kind = codes kind; id = id; scoped_id = None; classes = classes; scoped_classes = []; holds = []; tails = [] }
 
--- <main> <h1 class="a"></h1> <p id="b"></p> <p class="a red"> <em></em> </p> </main> <aside></aside>
+-- the document `<main> <h1 class="a"></h1> <p id="b"></p> <p class="a red"> <em></em> </p> </main> <aside></aside>`
 abbrev pub page : Document
 page = record {
   elements =
@@ -84,11 +84,11 @@ three first combinator second last third = record { lead = None; first = first; 
 abbrev pub led : Combinator → BareCompound → BareSelector
 led combinator k = record { lead = Some combinator; first = k; rest = [] }
 
--- `#b, .a`
+-- the selector list `#b, .a`
 abbrev pub either : List BareSelector
 either = one (id "b") ∷ one (class "a") ∷ []
 
--- inside a rule `#b, .a`
+-- what is round a rule in a rule `#b, .a`
 abbrev pub inside : Around
 inside = within page top either
 
@@ -114,7 +114,7 @@ sublayer name inner = LayerName.Named (codes name) ∷ LayerName.Named (codes in
 abbrev pub unnamed : ℕ → LayerPath
 unnamed number = LayerName.Anonymous number ∷ []
 
--- @layer reset, base, base.theme
+-- the layers that `@layer reset, base, base.theme` mentions
 abbrev pub mentions : List LayerPath
 mentions = layer "reset" ∷ layer "base" ∷ sublayer "base" "theme" ∷ []
 

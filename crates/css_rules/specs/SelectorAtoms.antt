@@ -13,7 +13,7 @@ use Rattle.css_tokens.specs.PlainNames.{is_plain_name}
 use Rattle.css_rules.specs.SelectorTexts.{compound_text, ends_in_dashes}
 use Rattle.css_rules.specs.SelectorWords as words
 
--- the kinds of words in such a text
+-- the kinds of words in the text of a selector list
 pub data Atom : Type 0 where
   name : List ℕ → Atom
   hash : List ℕ → Atom

@@ -30,7 +30,7 @@ compound_text k = type_text k.kind ++ flat_map simple_text k.simples
 abbrev pub ends_in_dashes : List ℕ → Bool
 ends_in_dashes text = ends_with nat_eq text (codes "--")
 
--- One space stands before a `>` behind `--`, since `-->` would be read as one token.
+-- The child combinator: one space stands before a `>` behind `--`, since `-->` would be read as one token.
 abbrev pub child_text : Bool → List ℕ
 child_text true = codes " >"
 child_text false = codes ">"

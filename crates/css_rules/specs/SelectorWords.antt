@@ -55,7 +55,7 @@ simple_words Parent = delim (codes "&") ∷ []
 abbrev pub compound_words : BareCompound → List Word
 compound_words k = type_words k.kind ++ flat_map simple_words k.simples
 
--- One space stands before a `>` behind `--`.
+-- the words of the child combinator: a space before `>` where the text before ends in `--`
 abbrev pub child_words : Bool → List Word
 child_words true = space ∷ delim (codes ">") ∷ []
 child_words false = delim (codes ">") ∷ []

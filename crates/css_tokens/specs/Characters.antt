@@ -12,7 +12,7 @@ is_among bytes b = list_any (nat_eq b) bytes
 abbrev pub is_from_to : ℕ → ℕ → ℕ → Bool
 is_from_to first last b = nat_le first b && nat_le b last
 
--- the class of a byte that is neither in names nor in numbers, nor white space
+-- the class of a byte that is none of the ASCII letters and digits, `_`, white space, `"`, `'`, `#`, `*`, `+`, `-`, `.` and `/`
 abbrev pub mark_of : ℕ → Class
 mark_of b =
     if nat_eq b 60 then class.Less

@@ -57,7 +57,7 @@ IsRefused components Missing offset = ⊥
 abbrev pub HasRefusal : List ℕ → Code → ℕ → Type 0
 HasRefusal bytes code offset = (components : List Component) × HasComponents bytes components × IsRefused components code offset
 
--- what stands against a text without such bytes
+-- what stands first against a text without bytes that wait for a later stage
 abbrev pub HasReadingFinding : List ℕ → Code → ℕ → Type 0
 HasReadingFinding bytes code offset = HasStop bytes code offset ⊎ (HasBracketFault bytes code offset ⊎ HasRefusal bytes code offset)
 
