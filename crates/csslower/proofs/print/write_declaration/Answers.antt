@@ -1,4 +1,3 @@
-use Rattle.std.proofs.Common.{List, ℕ, ◌++◌}
 use Rattle.std.specs.Prelude.{codes}
 use Rattle.css_rules.specs.SheetTexts.{importance_text, printed_value}
 use Rattle.css_tokens.specs.NameText.{name_text}

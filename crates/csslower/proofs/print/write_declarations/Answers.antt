@@ -1,4 +1,4 @@
-use Rattle.std.proofs.Common.{List, ◌≡◌, ◌++◌, drop, sym, ap, subst}
+use Rattle.std.proofs.Common.{◌≡◌, ◌++◌, drop, sym, ap, subst}
 use Rattle.css_rules.specs.SheetTexts.{declaration_text, declarations_text, more_declarations}
 use Rattle.css_tokens.specs.Appends.{AppendsFront}
 use Rattle.csslower.proofs.Fronts.{on_err, on_err_map, front_first, front_second, at_item, rest_whole}

@@ -2,7 +2,6 @@ use Rattle.std.proofs.Common.{List, ℕ, ◌++◌}
 use Rattle.std.specs.Prelude.{codes}
 use Rattle.css_rules.specs.declared.sheet.Declaration.{Declaration}
 use Rattle.css_rules.specs.SheetTexts.{declaration_text}
-use Rattle.css_tokens.specs.Appends.{AppendsFront}
 use Rattle.csslower.proofs.Fronts.{on_err, front_none, front_second, front_item}
 use Rattle.csslower.proofs.print.write_more.Goals as goal
 
