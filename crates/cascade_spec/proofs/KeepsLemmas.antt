@@ -1,5 +1,5 @@
 -- What is written from a sheet reads as it again, and so keeps the winners of its text.
-use Rattle.std.proofs.Common.{◌≡◌, ℕ, List, [], ◌∷◌, ◌++◌, map, flat_map, Bool, true, false, ◌&&◌, not, Option, Some, None, refl, sym, ◌∙◌, ap, IsTrue, length, take, drop, nat_lt, nat_eq}
+use Rattle.std.proofs.Common.{◌≡◌, ℕ, List, [], ◌∷◌, ◌++◌, map, flat_map, Bool, true, false, ◌&&◌, not, Option, Some, None, refl, sym, ◌∙◌, ap, subst, IsTrue, length, take, drop, nat_lt, nat_eq}
 use Rattle.std.specs.List.{list_all}
 use Rattle.std.specs.Option.{option_map}
 use Rattle.std.proofs.lemmas.List.{take-append-drop}
@@ -16,7 +16,7 @@ use Rattle.css_rules.specs.Runs.{Run, bare_run, bare_runs, runs_of}
 use Rattle.css_rules.specs.Printable.{ArePrintable}
 use Rattle.css_rules.specs.Sheets.{sheet_of, sheet_refusals}
 use Rattle.css_rules.specs.SheetAgain.{sheet_again}
-use Rattle.css_rules.specs.SheetTexts.{sheet_text}
+use Rattle.css_rules.specs.SheetTexts.{runs_text, sheet_text}
 use Rattle.css_rules.specs.Standing.{AllStand}
 use Rattle.css_rules.specs.declared.sheet.Item.{Item}
 use Rattle.css_rules.specs.declared.sheet.Sheet.{Sheet}
@@ -73,9 +73,10 @@ pub record SheetLaws : Type 0 where
   pub one : (t : List ℕ) (a b : List Word) → Reads t a → Reads t b → a ≡ b
   pub names : (n : List ℕ) → is_plain n ≡ true → spells kinds.Ident n ≡ true → is_plain_name n ≡ true
   pub first : (t : List ℕ) (w : Word) → First t w → spells w.kind w.text ≡ true
+  pub flat : (cs : List Component) → sheet_text (sheet_of cs) ≡ runs_text (runs_of (sheet_of cs))
   pub printable : (cs : List Component) → sheet_refusals cs ≡ [] → IsTrue (all_formed cs) → IsTrue (list_all is_spelled (words_all cs)) → ArePrintable (runs_of (sheet_of cs))
   pub standing : (text : List ℕ) (cs : List Component) → Reads text (words_all cs) → IsTrue (all_formed cs) → sheet_refusals cs ≡ [] → AllStand (runs_of (sheet_of cs))
-  pub reads : (runs : List Run) → ArePrintable runs → AllStand runs → Reads (sheet_text runs) (words_all (sheet_again runs))
+  pub reads : (runs : List Run) → ArePrintable runs → AllStand runs → Reads (runs_text runs) (words_all (sheet_again runs))
   pub formed : (runs : List Run) → ArePrintable runs → IsTrue (all_formed (sheet_again runs))
   pub faultless : (runs : List Run) → ArePrintable runs → sheet_refusals (sheet_again runs) ≡ []
   pub same : (runs : List Run) → ArePrintable runs → bare_runs (sheet_of (sheet_again runs)) ≡ map bare_run runs
@@ -87,19 +88,20 @@ module _ (laws : SheetLaws) where
   one-sheet text a b p q = laws.places a b (laws.one text (words_all a) (words_all b) p.reads q.reads) p.formed q.formed
 
   -- what is written from a sheet reads as the sheet of its text
-  pub reads-again : (source : List ℕ) (cs : List Component) → IsTrue (is_plain source) → ReadsAs source cs → IsReadAgain source (sheet_text (runs_of (sheet_of cs)))
+  pub reads-again : (source : List ℕ) (cs : List Component) → IsTrue (is_plain source) → ReadsAs source cs → IsReadAgain source (sheet_text (sheet_of cs))
   reads-again source cs plain read =
       let runs = runs_of (sheet_of cs) in
       let printable : ArePrintable runs = laws.printable cs read.faultless read.formed (words-spelled laws.names laws.first source (words_all cs) [] plain read.reads) in
       let stands : AllStand runs = laws.standing source cs read.reads read.formed read.faultless in
-      let again : ReadsAs (sheet_text runs) (sheet_again runs) = record { reads = laws.reads runs printable stands; formed = laws.formed runs printable; faultless = laws.faultless runs printable } in
-      record {
+      let again : ReadsAs (runs_text runs) (sheet_again runs) = record { reads = laws.reads runs printable stands; formed = laws.formed runs printable; faultless = laws.faultless runs printable } in
+      subst (IsReadAgain source) (sym (laws.flat cs))
+      (record {
         readable = (sheet_of (sheet_again runs), (sheet_again runs, again, refl));
         same = λ old new is_old is_new.
             ap bare_runs is_new.2
-            ∙ one-sheet (sheet_text runs) is_new.0 (sheet_again runs) is_new.1 again ∙ laws.same runs printable ∙ one-sheet source cs is_old.0 read is_old.1
+            ∙ one-sheet (runs_text runs) is_new.0 (sheet_again runs) is_new.1 again ∙ laws.same runs printable ∙ one-sheet source cs is_old.0 read is_old.1
             ∙ ap bare_runs (sym is_old.2);
-      }
+      })
 
 no_mentions : (items : List Item) → flat_map mentions_in items ≡ []
 no_mentions [] = refl

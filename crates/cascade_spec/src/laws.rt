@@ -3,7 +3,7 @@
 ghost use Rattle.std.specs.Prelude.{◌≡◌, ℕ, List, IsTrue, Bool, Some};
 ghost use Rattle.css_tokens.specs.declared.component.Component.{Component};
 ghost use Rattle.css_tokens.specs.Tokens.{is_plain};
-ghost use Rattle.css_rules.specs.Runs.{runs_of, bare_runs};
+ghost use Rattle.css_rules.specs.Runs.{bare_runs};
 ghost use Rattle.css_rules.specs.Sheets.{sheet_of};
 ghost use Rattle.css_rules.specs.SheetTexts.{sheet_text};
 ghost use Rattle.css_rules.specs.declared.sheet.Sheet.{Sheet};
@@ -14,8 +14,8 @@ ghost use Rattle.cascade_spec.specs.Readings.{ReadsAs, HasSheet, IsReadAgain, Ke
 /// The text that a sheet prints as reads as the sheet of the text that the sheet was read from, and so keeps its winners,
 /// and a text reads as one sheet, places aside.
 pub fn sheets_keep_winners()
-    ensures again { (source : List ℕ) (cs : List Component) → IsTrue (is_plain source) → ReadsAs source cs → IsReadAgain source (sheet_text (runs_of (sheet_of cs))) }
-    ensures kept { (source : List ℕ) (cs : List Component) → IsTrue (is_plain source) → ReadsAs source cs → KeepsWinners source (sheet_text (runs_of (sheet_of cs))) }
+    ensures again { (source : List ℕ) (cs : List Component) → IsTrue (is_plain source) → ReadsAs source cs → IsReadAgain source (sheet_text (sheet_of cs)) }
+    ensures kept { (source : List ℕ) (cs : List Component) → IsTrue (is_plain source) → ReadsAs source cs → KeepsWinners source (sheet_text (sheet_of cs)) }
     ensures one { (text : List ℕ) (a b : Sheet) → HasSheet text a → HasSheet text b → bare_runs a ≡ bare_runs b }
 {
     css_tokens::one_reading();

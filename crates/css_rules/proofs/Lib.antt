@@ -38,3 +38,4 @@ pub mod Within
 pub mod WithinRefusals
 pub mod FirstRefusals
 pub mod FirstFaults
+pub mod FlatTexts

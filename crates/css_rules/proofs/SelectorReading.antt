@@ -18,12 +18,13 @@ use Rattle.css_rules.specs.declared.selector.sign.Sign.{Sign}
 use Rattle.css_rules.specs.declared.selector.sign.Sign.TheVariants.{Comment, White, Child, Next, Later, Name, Star, Dot, Id, Parent, Other}
 use Rattle.css_rules.specs.declared.selector.read.Front.{Front}
 use Rattle.css_rules.specs.declared.selector.read.Front.TheVariants.{Nothing, Joined}
+use Rattle.css_rules.specs.declared.selector.read.Phase.{Phase}
+use Rattle.css_rules.specs.declared.selector.read.Phase.TheVariants.{Due, Inside, Dotted, Behind, Failed}
 use Rattle.css_rules.specs.declared.selector.read.Reading.{Reading}
-use Rattle.css_rules.specs.declared.selector.read.Reading.TheVariants.{Due, Inside, Dotted, Behind, Failed}
 use Rattle.css_rules.specs.declared.selector.read.Pending.{Pending}
 use Rattle.css_rules.specs.Signs.{sign_of, place_of, is_gap, is_comma}
 use Rattle.css_rules.specs.Selectors.{with_part, parts_of, compound_with, compound_of, stripped, white_before, sign_before, spaced, Runs, runs_of, with_link, links_of, selector_with, first_place, selector_of, Member, empty_before, with_component, cut_at_commas, fault_of, list_of, list_faults}
-use Rattle.css_rules.specs.SelectorSteps.{link, joined, chained, of_type, with_simple, step, concluded, fresh, pending_step, pending_run, pending_selector, pending_fault, list_from, faults_from}
+use Rattle.css_rules.specs.SelectorSteps.{link, joined, chained, of_type, with_simple, reading, step, concluded, fresh, pending_step, pending_run, pending_selector, pending_fault, list_from, faults_from}
 
 -- What a reading comes to, where these clean signs follow.
 
@@ -44,12 +45,16 @@ due at f runs = selector_from at f (compound_of runs.first) (links_of runs.rest)
 abbrev dotted : ℕ → Front → Compound → ℕ → Runs → Option Selector
 dotted at f k dot runs = selector_from at f (more_parts k (parts_of (Dot dot ∷ runs.first))) (links_of runs.rest)
 
-abbrev meaning : ℕ → Reading → List Sign → Option Selector
-meaning at (Due f) ws = due at f (runs_of (stripped ws))
-meaning at (Inside f k) ws = inside at f k (runs_of ws)
-meaning at (Dotted f k dot) ws = dotted at f k dot (runs_of ws)
-meaning at (Behind f k) ws = inside at f k (runs_of (white_before ws))
-meaning at Failed ws = None
+abbrev meaning : ℕ → Phase → Front → Compound → List Sign → Option Selector
+meaning at Due f k ws = due at f (runs_of (stripped ws))
+meaning at Inside f k ws = inside at f k (runs_of ws)
+meaning at (Dotted dot) f k ws = dotted at f k dot (runs_of ws)
+meaning at Behind f k ws = inside at f k (runs_of (white_before ws))
+meaning at Failed f k ws = None
+
+-- the same of a whole reading
+abbrev meaning_of : ℕ → Reading → List Sign → Option Selector
+meaning_of at r ws = meaning at r.phase r.front r.compound ws
 
 append_whole : (k : Compound) → (let c : Compound = record { kind = k.kind; parts = k.parts ++ [] } in c) ≡ k
 append_whole k = ap (λ (ps : List Part). let c : Compound = record { kind = k.kind; parts = ps } in c) (append-nil k.parts)
@@ -123,69 +128,69 @@ due-joined at f k c runs = from-joined at f k c (compound_of runs.first) (links_
 simple-joined : (at : ℕ) (f : Front) (k : Compound) (simple : Simple) (place : ℕ) (runs : Runs) → inside at (joined f k combinators.Descendant) (with_simple (of_type types.None) simple place) runs ≡ selector_from at f (more_parts k (Some [])) (with_link combinators.Descendant (compound_with types.None (with_part simple place (parts_of runs.first))) (links_of runs.rest))
 simple-joined at f k simple place runs = on-simple at (joined f k combinators.Descendant) (of_type types.None) simple place runs ∙ from-joined at f k combinators.Descendant (compound_with types.None (with_part simple place (parts_of runs.first))) (links_of runs.rest)
 
-meaning-step : (at : ℕ) (w : Sign) (r : Reading) (ws : List Sign) → meaning at (step w r) ws ≡ meaning at r (sign_before w ws)
-meaning-step at Comment r ws = refl
-meaning-step at White (Due f) ws = ap (λ (vs : List Sign). due at f (runs_of vs)) (sym (stripped-white ws))
-meaning-step at White (Inside f k) ws = refl
-meaning-step at White (Behind f k) ws = ap (λ (vs : List Sign). inside at f k (runs_of vs)) (sym (white-white ws))
-meaning-step at White (Dotted f k d) ws = ap (λ (vs : List Sign). selector_from at f (more_parts k (parts_of (Dot d ∷ vs))) (links_of (runs_of (white_before ws)).rest)) (sym (first-white ws))
-meaning-step at White Failed ws = refl
-meaning-step at Child (Due f) ws = refl
-meaning-step at Child (Inside f k) ws = due-joined at f k combinators.Child (runs_of (stripped ws))
-meaning-step at Child (Behind f k) ws = due-joined at f k combinators.Child (runs_of (stripped ws))
-meaning-step at Child (Dotted f k d) ws = refl
-meaning-step at Child Failed ws = refl
-meaning-step at Next (Due f) ws = refl
-meaning-step at Next (Inside f k) ws = due-joined at f k combinators.Next (runs_of (stripped ws))
-meaning-step at Next (Behind f k) ws = due-joined at f k combinators.Next (runs_of (stripped ws))
-meaning-step at Next (Dotted f k d) ws = refl
-meaning-step at Next Failed ws = refl
-meaning-step at Later (Due f) ws = refl
-meaning-step at Later (Inside f k) ws = due-joined at f k combinators.Later (runs_of (stripped ws))
-meaning-step at Later (Behind f k) ws = due-joined at f k combinators.Later (runs_of (stripped ws))
-meaning-step at Later (Dotted f k d) ws = refl
-meaning-step at Later Failed ws = refl
-meaning-step at (Name n) (Due f) ws = refl
-meaning-step at (Name n) (Inside f k) ws = refl
-meaning-step at (Name n) (Behind f k) ws = from-joined at f k combinators.Descendant (compound_with (types.Name n) (parts_of (runs_of ws).first)) (links_of (runs_of ws).rest)
-meaning-step at (Name n) (Dotted f k d) ws = on-simple at f k (simples.Class n) d (runs_of ws)
-meaning-step at (Name n) Failed ws = refl
-meaning-step at Star (Due f) ws = refl
-meaning-step at Star (Inside f k) ws = refl
-meaning-step at Star (Behind f k) ws = from-joined at f k combinators.Descendant (compound_with types.Universal (parts_of (runs_of ws).first)) (links_of (runs_of ws).rest)
-meaning-step at Star (Dotted f k d) ws = refl
-meaning-step at Star Failed ws = refl
-meaning-step at (Dot a) (Due f) ws = refl
-meaning-step at (Dot a) (Inside f k) ws = refl
-meaning-step at (Dot a) (Behind f k) ws = from-joined at f k combinators.Descendant (compound_with types.None (parts_of (Dot a ∷ (runs_of ws).first))) (links_of (runs_of ws).rest)
-meaning-step at (Dot a) (Dotted f k d) ws = refl
-meaning-step at (Dot a) Failed ws = refl
-meaning-step at (Id n a) (Due f) ws = on-simple at f (of_type types.None) (simples.Id n) a (runs_of ws)
-meaning-step at (Id n a) (Inside f k) ws = on-simple at f k (simples.Id n) a (runs_of ws)
-meaning-step at (Id n a) (Behind f k) ws = simple-joined at f k (simples.Id n) a (runs_of ws)
-meaning-step at (Id n a) (Dotted f k d) ws = refl
-meaning-step at (Id n a) Failed ws = refl
-meaning-step at (Parent a) (Due f) ws = on-simple at f (of_type types.None) simples.Parent a (runs_of ws)
-meaning-step at (Parent a) (Inside f k) ws = on-simple at f k simples.Parent a (runs_of ws)
-meaning-step at (Parent a) (Behind f k) ws = simple-joined at f k simples.Parent a (runs_of ws)
-meaning-step at (Parent a) (Dotted f k d) ws = refl
-meaning-step at (Parent a) Failed ws = refl
-meaning-step at Other (Due f) ws = refl
-meaning-step at Other (Inside f k) ws = refl
-meaning-step at Other (Dotted f k d) ws = refl
-meaning-step at Other (Behind f k) ws = refl
-meaning-step at Other Failed ws = refl
+meaning-step : (at : ℕ) (w : Sign) (p : Phase) (f : Front) (k : Compound) (ws : List Sign) → meaning_of at (step w (reading p f k)) ws ≡ meaning at p f k (sign_before w ws)
+meaning-step at Comment p f k ws = refl
+meaning-step at White Due f k ws = ap (λ (vs : List Sign). due at f (runs_of vs)) (sym (stripped-white ws))
+meaning-step at White Inside f k ws = refl
+meaning-step at White Behind f k ws = ap (λ (vs : List Sign). inside at f k (runs_of vs)) (sym (white-white ws))
+meaning-step at White (Dotted d) f k ws = ap (λ (vs : List Sign). selector_from at f (more_parts k (parts_of (Dot d ∷ vs))) (links_of (runs_of (white_before ws)).rest)) (sym (first-white ws))
+meaning-step at White Failed f k ws = refl
+meaning-step at Child Due f k ws = refl
+meaning-step at Child Inside f k ws = due-joined at f k combinators.Child (runs_of (stripped ws))
+meaning-step at Child Behind f k ws = due-joined at f k combinators.Child (runs_of (stripped ws))
+meaning-step at Child (Dotted d) f k ws = refl
+meaning-step at Child Failed f k ws = refl
+meaning-step at Next Due f k ws = refl
+meaning-step at Next Inside f k ws = due-joined at f k combinators.Next (runs_of (stripped ws))
+meaning-step at Next Behind f k ws = due-joined at f k combinators.Next (runs_of (stripped ws))
+meaning-step at Next (Dotted d) f k ws = refl
+meaning-step at Next Failed f k ws = refl
+meaning-step at Later Due f k ws = refl
+meaning-step at Later Inside f k ws = due-joined at f k combinators.Later (runs_of (stripped ws))
+meaning-step at Later Behind f k ws = due-joined at f k combinators.Later (runs_of (stripped ws))
+meaning-step at Later (Dotted d) f k ws = refl
+meaning-step at Later Failed f k ws = refl
+meaning-step at (Name n) Due f k ws = refl
+meaning-step at (Name n) Inside f k ws = refl
+meaning-step at (Name n) Behind f k ws = from-joined at f k combinators.Descendant (compound_with (types.Name n) (parts_of (runs_of ws).first)) (links_of (runs_of ws).rest)
+meaning-step at (Name n) (Dotted d) f k ws = on-simple at f k (simples.Class n) d (runs_of ws)
+meaning-step at (Name n) Failed f k ws = refl
+meaning-step at Star Due f k ws = refl
+meaning-step at Star Inside f k ws = refl
+meaning-step at Star Behind f k ws = from-joined at f k combinators.Descendant (compound_with types.Universal (parts_of (runs_of ws).first)) (links_of (runs_of ws).rest)
+meaning-step at Star (Dotted d) f k ws = refl
+meaning-step at Star Failed f k ws = refl
+meaning-step at (Dot a) Due f k ws = refl
+meaning-step at (Dot a) Inside f k ws = refl
+meaning-step at (Dot a) Behind f k ws = from-joined at f k combinators.Descendant (compound_with types.None (parts_of (Dot a ∷ (runs_of ws).first))) (links_of (runs_of ws).rest)
+meaning-step at (Dot a) (Dotted d) f k ws = refl
+meaning-step at (Dot a) Failed f k ws = refl
+meaning-step at (Id n a) Due f k ws = on-simple at f (of_type types.None) (simples.Id n) a (runs_of ws)
+meaning-step at (Id n a) Inside f k ws = on-simple at f k (simples.Id n) a (runs_of ws)
+meaning-step at (Id n a) Behind f k ws = simple-joined at f k (simples.Id n) a (runs_of ws)
+meaning-step at (Id n a) (Dotted d) f k ws = refl
+meaning-step at (Id n a) Failed f k ws = refl
+meaning-step at (Parent a) Due f k ws = on-simple at f (of_type types.None) simples.Parent a (runs_of ws)
+meaning-step at (Parent a) Inside f k ws = on-simple at f k simples.Parent a (runs_of ws)
+meaning-step at (Parent a) Behind f k ws = simple-joined at f k simples.Parent a (runs_of ws)
+meaning-step at (Parent a) (Dotted d) f k ws = refl
+meaning-step at (Parent a) Failed f k ws = refl
+meaning-step at Other Due f k ws = refl
+meaning-step at Other Inside f k ws = refl
+meaning-step at Other (Dotted d) f k ws = refl
+meaning-step at Other Behind f k ws = refl
+meaning-step at Other Failed f k ws = refl
 
-meaning-end : (at : ℕ) (r : Reading) → concluded at r ≡ meaning at r []
-meaning-end at (Due f) = refl
-meaning-end at (Inside f k) = ap (λ (y : Compound). Some (chained at f y [])) (sym (append_whole k))
-meaning-end at (Behind f k) = ap (λ (y : Compound). Some (chained at f y [])) (sym (append_whole k))
-meaning-end at (Dotted f k d) = refl
-meaning-end at Failed = refl
+meaning-end : (at : ℕ) (p : Phase) (f : Front) (k : Compound) → concluded at p f k ≡ meaning at p f k []
+meaning-end at Due f k = refl
+meaning-end at Inside f k = ap (λ (y : Compound). Some (chained at f y [])) (sym (append_whole k))
+meaning-end at Behind f k = ap (λ (y : Compound). Some (chained at f y [])) (sym (append_whole k))
+meaning-end at (Dotted d) f k = refl
+meaning-end at Failed f k = refl
 
-run-reading : (at : ℕ) (p : Pending) (cs : List Component) → concluded at (pending_run p cs).reading ≡ meaning at p.reading (spaced (map sign_of cs))
-run-reading at p [] = meaning-end at p.reading
-run-reading at p (c ∷ cs) = run-reading at (pending_step p c) cs ∙ meaning-step at (sign_of c) p.reading (spaced (map sign_of cs))
+run-reading : (at : ℕ) (p : Pending) (cs : List Component) → (let r = (pending_run p cs).reading in concluded at r.phase r.front r.compound) ≡ meaning_of at p.reading (spaced (map sign_of cs))
+run-reading at p [] = meaning-end at p.reading.phase p.reading.front p.reading.compound
+run-reading at p (c ∷ cs) = run-reading at (pending_step p c) cs ∙ meaning-step at (sign_of c) p.reading.phase p.reading.front p.reading.compound (spaced (map sign_of cs))
 
 -- The place.
 
@@ -212,7 +217,7 @@ from-nothing at (Some k) None = refl
 
 run-selector : (cs : List Component) → pending_selector (pending_run fresh cs) ≡ selector_of cs
 run-selector cs =
-    ap (λ (o : Option ℕ). concluded (unwrap_or o 0) (pending_run fresh cs).reading) (run-place fresh cs)
+    ap (λ (o : Option ℕ). let r = (pending_run fresh cs).reading in concluded (unwrap_or o 0) r.phase r.front r.compound) (run-place fresh cs)
     ∙ run-reading (unwrap_or (first_place cs) 0) fresh cs
     ∙ (let runs = runs_of (stripped (spaced (map sign_of cs))) in from-nothing (unwrap_or (first_place cs) 0) (compound_of runs.first) (links_of runs.rest))
 

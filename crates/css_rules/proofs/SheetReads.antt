@@ -27,7 +27,7 @@ use Rattle.css_rules.specs.Printable.{IsPrintableDeclaration, ArePrintable, begi
 use Rattle.css_rules.specs.Standing.{Stands, AllStand}
 use Rattle.css_rules.specs.SelectorTexts.{list_text, selector_text, compound_text, type_text, simple_text, more_text, links_text, ends_in_dashes, lead_text}
 use Rattle.css_rules.specs.SelectorWords.{word, single_of, list_again}
-use Rattle.css_rules.specs.SheetTexts.{innermost, sheet_text}
+use Rattle.css_rules.specs.SheetTexts.{innermost, runs_text}
 use Rattle.css_rules.specs.SheetAgain.{colon, semicolon, line_feed, value_or_space, importance_again, declaration_again, declarations_again, block_again, run_again, sheet_again}
 use Rattle.css_rules.proofs.PreludeAgain.{words-cons}
 use Rattle.css_rules.proofs.SelectorSpelling.{and-left, and-right}
@@ -244,7 +244,7 @@ module _ (laws : ReadLaws) where
           ∙ list-begins (innermost r.chain) (text_of tail ++ (text_of (sheet_again rs) ++ [])) (subst Q (sym m.is) m.readable)
 
   -- the text of a printed sheet reads as the words of its components
-  pub text-reads : ValueLaws → ListText → (runs : List Run) → ArePrintable runs → AllStand runs → Reads (sheet_text runs) (words_all (sheet_again runs))
+  pub text-reads : ValueLaws → ListText → (runs : List Run) → ArePrintable runs → AllStand runs → Reads (runs_text runs) (words_all (sheet_again runs))
   text-reads values lists runs p stands =
       let P : List ℕ → Type 0 = λ t. ReadsTo t (words_all (sheet_again runs)) [] in
       subst P (append-nil (text_of (sheet_again runs)) ∙ text-sheet values lists runs p) (sheet-reads values lists runs p stands)

@@ -17,7 +17,7 @@ use Rattle.css_rules.specs.Components.{is_gap}
 use Rattle.css_rules.specs.Printable.{IsPrintable, IsPrintableDeclaration, ArePrintable, begins_solid}
 use Rattle.css_rules.specs.SelectorTexts.{list_text}
 use Rattle.css_rules.specs.SelectorWords.{word, single_of, list_again}
-use Rattle.css_rules.specs.SheetTexts.{printed_value, importance_text, declaration_text, more_declarations, declarations_text, innermost, run_text, sheet_text}
+use Rattle.css_rules.specs.SheetTexts.{printed_value, importance_text, declaration_text, more_declarations, declarations_text, innermost, run_text, runs_text}
 use Rattle.css_rules.specs.SheetAgain.{colon, line_feed, value_or_space, importance_again, declaration_again, more_again, declarations_again, block_again, run_again, sheet_again}
 use Rattle.css_rules.proofs.Heads.{piece_of}
 use Rattle.css_rules.proofs.PreludeAgain.{words-cons}
@@ -106,7 +106,7 @@ text-run laws lists run p =
     ∙ ap (λ t. codes "{" ++ (declarations_text run.declarations ++ (codes "}" ++ t))) (text-cons (word kinds.White (10 ∷ [])) []))
 
 -- the components of a printed sheet spell its text
-pub text-sheet : ValueLaws → ListText → (runs : List Run) → ArePrintable runs → text_of (sheet_again runs) ≡ sheet_text runs
+pub text-sheet : ValueLaws → ListText → (runs : List Run) → ArePrintable runs → text_of (sheet_again runs) ≡ runs_text runs
 text-sheet laws lists [] p = refl
 text-sheet laws lists (run ∷ runs) p =
     text-append (run_again run) (sheet_again runs)

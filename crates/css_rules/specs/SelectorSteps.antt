@@ -16,8 +16,9 @@ use Rattle.css_rules.specs.declared.selector.sign.Sign.{Sign}
 use Rattle.css_rules.specs.declared.selector.sign.Sign.TheVariants.{Comment, White, Child, Next, Later, Name, Star, Dot, Id, Parent, Other}
 use Rattle.css_rules.specs.declared.selector.read.Front.{Front}
 use Rattle.css_rules.specs.declared.selector.read.Front.TheVariants.{Nothing, Joined}
+use Rattle.css_rules.specs.declared.selector.read.Phase.{Phase}
+use Rattle.css_rules.specs.declared.selector.read.Phase.TheVariants.{Due, Inside, Dotted, Behind, Failed}
 use Rattle.css_rules.specs.declared.selector.read.Reading.{Reading}
-use Rattle.css_rules.specs.declared.selector.read.Reading.TheVariants.{Due, Inside, Dotted, Behind, Failed}
 use Rattle.css_rules.specs.declared.selector.read.Pending.{Pending}
 use Rattle.css_rules.specs.Signs.{sign_of, place_of, is_gap}
 use Rattle.css_rules.specs.Selectors.{cut_at_commas, selector_of, fault_of}
@@ -44,79 +45,75 @@ of_type kind = record { kind = kind; parts = [] }
 abbrev pub with_simple : Compound → Simple → ℕ → Compound
 with_simple compound simple at = record { kind = compound.kind; parts = compound.parts ++ record { simple = simple; at = at } ∷ [] }
 
+-- how far it is read, the compounds with a combinator behind them, and the last compound
+abbrev pub reading : Phase → Front → Compound → Reading
+reading phase front compound = record { phase = phase; front = front; compound = compound }
+
+-- a combinator behind the last compound
+abbrev pub linked : Combinator → Front → Compound → Reading
+linked combinator front compound = reading Due (joined front compound combinator) (of_type types.None)
+
 -- what a type selector makes of a reading: a compound begins with it
-abbrev pub on_type : TypeName → Reading → Reading
-on_type kind (Due front) = Inside front (of_type kind)
-on_type kind (Behind front compound) = Inside (joined front compound combinators.Descendant) (of_type kind)
-on_type kind (Inside front compound) = Failed
-on_type kind (Dotted front compound at) = Failed
-on_type kind Failed = Failed
+abbrev pub on_type : TypeName → Phase → Front → Compound → Reading
+on_type kind Due front compound = reading Inside front (of_type kind)
+on_type kind Behind front compound = reading Inside (joined front compound combinators.Descendant) (of_type kind)
+on_type kind phase front compound = reading Failed front compound
 
 -- what a name makes of a reading: a class behind a `.`, else a type selector
-abbrev pub on_name : List ℕ → Reading → Reading
-on_name name (Dotted front compound at) = Inside front (with_simple compound (simples.Class name) at)
-on_name name (Due front) = on_type (types.Name name) (Due front)
-on_name name (Behind front compound) = on_type (types.Name name) (Behind front compound)
-on_name name (Inside front compound) = Failed
-on_name name Failed = Failed
+abbrev pub on_name : List ℕ → Phase → Front → Compound → Reading
+on_name name (Dotted at) front compound = reading Inside front (with_simple compound (simples.Class name) at)
+on_name name phase front compound = on_type (types.Name name) phase front compound
 
 -- what a `.` makes of a reading: the name of a class has to follow
-abbrev pub on_dot : ℕ → Reading → Reading
-on_dot at (Due front) = Dotted front (of_type types.None) at
-on_dot at (Inside front compound) = Dotted front compound at
-on_dot at (Behind front compound) = Dotted (joined front compound combinators.Descendant) (of_type types.None) at
-on_dot at (Dotted front compound dot) = Failed
-on_dot at Failed = Failed
+abbrev pub on_dot : ℕ → Phase → Front → Compound → Reading
+on_dot at Due front compound = reading (Dotted at) front (of_type types.None)
+on_dot at Inside front compound = reading (Dotted at) front compound
+on_dot at Behind front compound = reading (Dotted at) (joined front compound combinators.Descendant) (of_type types.None)
+on_dot at phase front compound = reading Failed front compound
 
 -- what an id or `&` makes of a reading: one more part of a compound
-abbrev pub on_part : Simple → ℕ → Reading → Reading
-on_part simple at (Due front) = Inside front (with_simple (of_type types.None) simple at)
-on_part simple at (Inside front compound) = Inside front (with_simple compound simple at)
-on_part simple at (Behind front compound) = Inside (joined front compound combinators.Descendant) (with_simple (of_type types.None) simple at)
-on_part simple at (Dotted front compound dot) = Failed
-on_part simple at Failed = Failed
+abbrev pub on_part : Simple → ℕ → Phase → Front → Compound → Reading
+on_part simple at Due front compound = reading Inside front (with_simple (of_type types.None) simple at)
+on_part simple at Inside front compound = reading Inside front (with_simple compound simple at)
+on_part simple at Behind front compound = reading Inside (joined front compound combinators.Descendant) (with_simple (of_type types.None) simple at)
+on_part simple at phase front compound = reading Failed front compound
 
 -- what white space makes of a reading: behind a compound it may become a combinator
-abbrev pub on_white : Reading → Reading
-on_white (Due front) = Due front
-on_white (Inside front compound) = Behind front compound
-on_white (Behind front compound) = Behind front compound
-on_white (Dotted front compound at) = Failed
-on_white Failed = Failed
+abbrev pub on_white : Phase → Front → Compound → Reading
+on_white Due front compound = reading Due front compound
+on_white Inside front compound = reading Behind front compound
+on_white Behind front compound = reading Behind front compound
+on_white phase front compound = reading Failed front compound
 
 -- what `>`, `+` or `~` makes of a reading: a compound has to follow
-abbrev pub on_combinator : Combinator → Reading → Reading
-on_combinator combinator (Inside front compound) = Due (joined front compound combinator)
-on_combinator combinator (Behind front compound) = Due (joined front compound combinator)
-on_combinator combinator (Due front) = Failed
-on_combinator combinator (Dotted front compound at) = Failed
-on_combinator combinator Failed = Failed
+abbrev pub on_combinator : Combinator → Phase → Front → Compound → Reading
+on_combinator combinator Inside front compound = linked combinator front compound
+on_combinator combinator Behind front compound = linked combinator front compound
+on_combinator combinator phase front compound = reading Failed front compound
 
 -- what one more sign makes of a reading
 abbrev pub step : Sign → Reading → Reading
-step Comment reading = reading
-step White reading = on_white reading
-step Child reading = on_combinator combinators.Child reading
-step Next reading = on_combinator combinators.Next reading
-step Later reading = on_combinator combinators.Later reading
-step (Name name) reading = on_name name reading
-step Star reading = on_type types.Universal reading
-step (Dot at) reading = on_dot at reading
-step (Id name at) reading = on_part (simples.Id name) at reading
-step (Parent at) reading = on_part simples.Parent at reading
-step Other reading = Failed
+step Comment r = r
+step White r = on_white r.phase r.front r.compound
+step Child r = on_combinator combinators.Child r.phase r.front r.compound
+step Next r = on_combinator combinators.Next r.phase r.front r.compound
+step Later r = on_combinator combinators.Later r.phase r.front r.compound
+step (Name name) r = on_name name r.phase r.front r.compound
+step Star r = on_type types.Universal r.phase r.front r.compound
+step (Dot at) r = on_dot at r.phase r.front r.compound
+step (Id name at) r = on_part (simples.Id name) at r.phase r.front r.compound
+step (Parent at) r = on_part simples.Parent at r.phase r.front r.compound
+step Other r = reading Failed r.front r.compound
 
 -- the selector, where the reading may end here
-abbrev pub concluded : ℕ → Reading → Option Selector
-concluded at (Inside front compound) = Some (chained at front compound [])
-concluded at (Behind front compound) = Some (chained at front compound [])
-concluded at (Due front) = None
-concluded at (Dotted front compound dot) = None
-concluded at Failed = None
+abbrev pub concluded : ℕ → Phase → Front → Compound → Option Selector
+concluded at Inside front compound = Some (chained at front compound [])
+concluded at Behind front compound = Some (chained at front compound [])
+concluded at phase front compound = None
 
 -- nothing is read of the member of the list
 abbrev pub fresh : Pending
-fresh = record { reading = Due Nothing; place = None }
+fresh = record { reading = reading Due Nothing (of_type types.None); place = None }
 
 -- what one more component makes of what is pending
 abbrev pub pending_step : Pending → Component → Pending
@@ -129,7 +126,7 @@ pending_run p (c ∷ cs) = pending_run (pending_step p c) cs
 
 -- the selector that is read, where the member may end here
 abbrev pub pending_selector : Pending → Option Selector
-pending_selector p = concluded (unwrap_or p.place 0) p.reading
+pending_selector p = concluded (unwrap_or p.place 0) p.reading.phase p.reading.front p.reading.compound
 
 -- where the member is refused if it may not end here: at its first token that is neither white space nor a comment, else at this stop
 abbrev pub pending_fault : Pending → ℕ → Option ℕ

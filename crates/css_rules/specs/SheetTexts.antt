@@ -1,10 +1,18 @@
 -- How a sheet prints (CSSOM, sections 6.4 and 6.7; this project's own choice of white space).
-use Rattle.std.specs.Prelude.{ℕ, List, [], ◌∷◌, ◌++◌, flat_map, Bool, codes, if◌then◌else◌}
+use Rattle.std.specs.Prelude.{ℕ, List, [], ◌∷◌, ◌++◌, ◌≡◌, map, flat_map, Bool, codes, if◌then◌else◌}
+use Rattle.std.proofs.Common.{◌∙◌, ap}
 use Rattle.css_tokens.specs.declared.component.Component.{Component}
 use Rattle.css_tokens.specs.NameText.{name_text}
 use Rattle.css_tokens.specs.Values.{value_text}
 use Rattle.css_rules.specs.declared.sheet.Declaration.{Declaration}
-use Rattle.css_rules.specs.BareSelectors.{BareSelector}
+use Rattle.css_rules.specs.declared.sheet.Item.{Item}
+use Rattle.css_rules.specs.declared.sheet.Item as item
+use Rattle.css_rules.specs.declared.sheet.Style as style
+use Rattle.css_rules.specs.declared.sheet.Item.TheVariants.{outs-Style, outs-Plain}
+use Rattle.css_rules.specs.declared.sheet.Item.TheOpen.{Item-F, Style, Plain, Style-F}
+use Rattle.css_rules.specs.declared.sheet.Item.TheFolds.{fold-Item, fold_out-Item}
+use Rattle.css_rules.specs.declared.sheet.Sheet.{Sheet}
+use Rattle.css_rules.specs.BareSelectors.{BareSelector, bare_list}
 use Rattle.css_rules.specs.Runs.{Run}
 use Rattle.css_rules.specs.SelectorTexts.{list_text}
 
@@ -30,6 +38,62 @@ abbrev pub declarations_text : List Declaration → List ℕ
 declarations_text [] = []
 declarations_text (d ∷ ds) = declaration_text d ++ more_declarations ds
 
+-- declarations, each with a semicolon behind it
+abbrev pub ended_declarations : List Declaration → List ℕ
+ended_declarations ds = flat_map (λ d. declaration_text d ++ codes ";") ds
+
+-- the text of an item that is alone in its block, and its text among others
+pub record ItemText : Type 0 where
+  pub alone : List ℕ
+  pub among : List ℕ
+
+-- the text of what stands in a block
+abbrev pub block_text : List ItemText → List ℕ
+block_text [] = []
+block_text (item ∷ []) = item.alone
+block_text (first ∷ second ∷ items) = flat_map (λ (item : ItemText). item.among) (first ∷ second ∷ items)
+
+-- a selector list, what is in its block, and a line feed
+abbrev pub braced_text : List BareSelector → List ℕ → List ℕ
+braced_text list inside = list_text list ++ (codes "{" ++ (inside ++ (codes "}" ++ 10 ∷ [])))
+
+-- the text of a style rule, which is not printed where nothing in its block is
+abbrev pub rule_text : List BareSelector → List ℕ → List ℕ
+rule_text list [] = []
+rule_text list (c ∷ cs) = braced_text list (c ∷ cs)
+
+-- the text of an item: declarations have semicolons between them where they are alone in their block, and else behind each
+abbrev pub item_text : Item-F ItemText (List ℕ) → ItemText
+item_text (Style text) = record { alone = text; among = text }
+item_text (Plain declarations) = record { alone = declarations_text declarations; among = ended_declarations declarations }
+
+-- the text of a style rule whose items print so
+abbrev pub style_text : Style-F ItemText (List ℕ) → List ℕ
+style_text style = rule_text (bare_list style.selectors) (block_text style.items)
+
+-- the text of an item, alone and among others
+abbrev pub printed_item : Item → ItemText
+printed_item = fold-Item ItemText (List ℕ) item_text style_text
+
+-- the items of a sheet, one after another
+abbrev pub sheet_text : Sheet → List ℕ
+sheet_text sheet = flat_map (λ item. (printed_item item).among) sheet.items
+
+abbrev layer_text : Item-F Item style.Style → ItemText
+layer_text v = item_text (item.map-Item Item style.Style ItemText (List ℕ) (fold-Item ItemText (List ℕ) item_text style_text) (style.fold-Style ItemText (List ℕ) item_text style_text) v)
+
+-- Declarations print so.
+pub printed_item-Plain : (ds : List Declaration) → printed_item (item.Plain ds) ≡ item_text (Plain ds)
+printed_item-Plain ds = fold_out-Item ItemText (List ℕ) item_text style_text (item.Plain ds) ∙ ap layer_text (outs-Plain ds)
+
+-- A style rule has the texts of its items in its block.
+pub printed_item-Style : (s : style.Style) → printed_item (item.Style s) ≡ item_text (Style (rule_text (bare_list s.selectors) (block_text (map printed_item s.items))))
+printed_item-Style s =
+    fold_out-Item ItemText (List ℕ) item_text style_text (item.Style s) ∙ ap layer_text (outs-Style s)
+    ∙ ap (λ text. item_text (Style text)) (style.fold_out-Style ItemText (List ℕ) item_text style_text s)
+
+-- A sheet of rules that are not nested, as its runs print.
+
 -- the selector list of the innermost rule
 abbrev pub innermost : List (List BareSelector) → List BareSelector
 innermost [] = []
@@ -38,8 +102,8 @@ innermost (list ∷ more ∷ chain) = innermost (more ∷ chain)
 
 -- the style rule of a run: its innermost selector list, its block, and a line feed
 abbrev pub run_text : Run → List ℕ
-run_text run = list_text (innermost run.chain) ++ (codes "{" ++ (declarations_text run.declarations ++ (codes "}" ++ 10 ∷ [])))
+run_text run = braced_text (innermost run.chain) (declarations_text run.declarations)
 
 -- the style rules of all runs, one after another
-abbrev pub sheet_text : List Run → List ℕ
-sheet_text runs = flat_map run_text runs
+abbrev pub runs_text : List Run → List ℕ
+runs_text runs = flat_map run_text runs

@@ -1,5 +1,5 @@
 ghost use Rattle.css_rules.specs.SheetAgain.{sheet_again};
-ghost use Rattle.css_rules.specs.SheetTexts.{sheet_text};
+ghost use Rattle.css_rules.specs.SheetTexts.{runs_text, sheet_text};
 ghost use Rattle.css_rules.specs.Standing.{AllStand};
 ghost use Rattle.css_tokens.specs.Tokens.{Reads};
 ghost use Rattle.css_rules.specs.Printable.{ArePrintable};
@@ -13,15 +13,17 @@ ghost use Rattle.std.specs.Prelude.{◌≡◌, List, [], IsTrue, map};
 
 /// What a list of components is read as is printable, where nothing in the list is refused, its components are well formed
 /// and its Idents spell Idents: each run is of one style rule, with selectors that have a spelling and no `&`, and each of
-/// its declarations, of which there is at least one, is written as it was read.
+/// its declarations, of which there is at least one, is written as it was read. No rule of it is nested, so that it prints
+/// as its runs do.
 pub fn sheets_are_printable()
-    ensures { (cs : List Component) → sheet_refusals cs ≡ [] → IsTrue (all_formed cs) → IsTrue (list_all is_spelled (words_all cs)) → ArePrintable (runs_of (sheet_of cs)) }
+    ensures flat { (cs : List Component) → sheet_text (sheet_of cs) ≡ runs_text (runs_of (sheet_of cs)) }
+    ensures printable { (cs : List Component) → sheet_refusals cs ≡ [] → IsTrue (all_formed cs) → IsTrue (list_all is_spelled (words_all cs)) → ArePrintable (runs_of (sheet_of cs)) }
 {}
 
 /// The text that printable runs print as reads as components that say the same: its tokens are their words, their brackets
 /// are paired, and nothing in them is refused.
 pub fn sheets_are_read_again()
-    ensures reads { (runs : List Run) → ArePrintable runs → AllStand runs → Reads (sheet_text runs) (words_all (sheet_again runs)) }
+    ensures reads { (runs : List Run) → ArePrintable runs → AllStand runs → Reads (runs_text runs) (words_all (sheet_again runs)) }
     ensures formed { (runs : List Run) → ArePrintable runs → IsTrue (all_formed (sheet_again runs)) }
     ensures faultless { (runs : List Run) → ArePrintable runs → sheet_refusals (sheet_again runs) ≡ [] }
     ensures same { (runs : List Run) → ArePrintable runs → bare_runs (sheet_of (sheet_again runs)) ≡ map bare_run runs }

@@ -1,11 +1,16 @@
 -- What a text that is put to an output leaves.
-use Rattle.std.specs.Prelude.{◌≡◌, ◌≢◌, ℕ, ◌≤◌, List, ◌++◌, IsSome, length, codes}
+use Rattle.std.specs.Prelude.{◌≡◌, ◌≢◌, ℕ, ◌≤◌, List, [], ◌∷◌, ◌++◌, Bool, true, false, IsSome, length, codes}
 use Rattle.css_outside.specs.Names.{Names, bytes_under}
 use Rattle.css_outside.specs.Putting.{message, Puts}
 
 -- the name of standard output
 abbrev pub standard : List ℕ
 standard = codes "-"
+
+-- does a text hold a byte?
+abbrev pub holds_bytes : List ℕ → Bool
+holds_bytes [] = false
+holds_bytes (byte ∷ bytes) = true
 
 -- A text was put under a name up to this rest: all other names keep what they hold, and a name that is held stays so.
 pub record PutsBut (name text rest : List ℕ) (before now : Names) : Type 0 where

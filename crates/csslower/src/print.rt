@@ -1,12 +1,12 @@
-ghost use Rattle.std.specs.Prelude.{◌≡◌, ◌++◌, List, flat_map, IfOk, OnErr, OnOk};
-ghost use Rattle.css_rules.specs.BareSelectors.{BareSelector, bare_list};
-ghost use Rattle.css_rules.specs.Runs.{runs_of, runs_within};
-ghost use Rattle.css_rules.specs.SheetTexts.{declaration_text, declarations_text, importance_text, innermost, more_declarations, printed_value, run_text, sheet_text};
+ghost use Rattle.css_rules.specs.BareSelectors.{bare_list};
+ghost use Rattle.css_rules.specs.SheetTexts.{block_text, braced_text, declaration_text, declarations_text, ended_declarations, importance_text, more_declarations, printed_item, printed_value, sheet_text};
 ghost use Rattle.css_rules.specs.declared.sheet.Item.{Style as the_style};
 ghost use Rattle.css_tokens.specs.Appends.{AppendsFront};
 ghost use Rattle.css_tokens.specs.NameText.{name_text};
+ghost use Rattle.csslower.specs.Writing.{holds_bytes};
+ghost use Rattle.std.specs.Prelude.{◌≡◌, ◌++◌, List, flat_map, map, IfOk, OnErr, OnOk};
 
-use css_rules::selector::{Selector, write_list};
+use css_rules::selector::write_list;
 use css_rules::{Declaration, Item, Sheet, Style};
 use css_tokens::{Component, List, OutOfMemory, Text};
 use std::alloc::Global;
@@ -80,58 +80,120 @@ fn write_declarations(declarations: &[Declaration], out: &mut List<u8>) -> Resul
     }
 }
 
-// Writes a rule that holds these declarations, and a line feed behind it.
-fn write_run(
-    list: &[Selector],
-    declarations: &[Declaration],
-    out: &mut List<u8>,
-) -> Result<(), OutOfMemory>
-    ensures ok { (chain : List (List BareSelector)) → innermost chain ≡ bare_list list.now → OnOk result (out.new ≡ out.old ++ run_text (record { chain = chain; declarations = declarations.now })) }
-    ensures err { (chain : List (List BareSelector)) → innermost chain ≡ bare_list list.now → OnErr result (AppendsFront out.old out.new (run_text (record { chain = chain; declarations = declarations.now }))) }
+// Writes a run of declarations, each with a semicolon behind it.
+fn write_ended(run: &[Declaration], out: &mut List<u8>) -> Result<(), OutOfMemory>
+    ensures ok { OnOk result (out.new ≡ out.old ++ ended_declarations run.now) }
+    ensures err { OnErr result (AppendsFront out.old out.new (ended_declarations run.now)) }
 {
-    write_list(list, out)?;
-    out.extend_from_slice(b"{")?;
-    write_declarations(declarations, out)?;
-    out.extend_from_slice(b"}\n")
-}
-
-// Writes an item that stands right inside the rule with this selector list.
-#[cycle(print)]
-fn write_item(item: &Item, list: &[Selector], out: &mut List<u8>) -> Result<(), OutOfMemory>
-    ensures ok { (chain : List (List BareSelector)) → innermost chain ≡ bare_list list.now → OnOk result (out.new ≡ out.old ++ sheet_text (runs_within item.now chain)) }
-    ensures err { (chain : List (List BareSelector)) → innermost chain ≡ bare_list list.now → OnErr result (AppendsFront out.old out.new (sheet_text (runs_within item.now chain))) }
-{
-    match item {
-        Item::Style(style) => write_style(style, out),
-        Item::Plain(declarations) => write_run(list, declarations.as_slice(), out),
-    }
-}
-
-#[cycle(print)]
-fn write_style(style: &Style, out: &mut List<u8>) -> Result<(), OutOfMemory>
-    ensures ok { (chain : List (List BareSelector)) → OnOk result (out.new ≡ out.old ++ sheet_text (runs_within (the_style style.now) chain)) }
-    ensures err { (chain : List (List BareSelector)) → OnErr result (AppendsFront out.old out.new (sheet_text (runs_within (the_style style.now) chain))) }
-{
-    write_items(style.items.as_slice(), style.selectors.as_slice(), out)
-}
-
-// Writes items that stand right inside the rule with this selector list.
-#[cycle(print)]
-fn write_items(items: &[Item], list: &[Selector], out: &mut List<u8>) -> Result<(), OutOfMemory>
-    ensures ok { (chain : List (List BareSelector)) → innermost chain ≡ bare_list list.now → OnOk result (out.new ≡ out.old ++ sheet_text (flat_map (λ item. runs_within item chain) items.now)) }
-    ensures err { (chain : List (List BareSelector)) → innermost chain ≡ bare_list list.now → OnErr result (AppendsFront out.old out.new (sheet_text (flat_map (λ item. runs_within item chain) items.now))) }
-{
-    for item in items {
-        write_item(item, list, out)?;
+    for declaration in run {
+        write_declaration(declaration, out)?;
+        out.extend_from_slice(b";")?;
     }
     Ok(())
 }
 
-// The text of a sheet: a rule for each run of declarations, with the selector list of the innermost rule round it.
+// Whether anything of an item is printed. Rules stand in at most 64 others, so that each may ask it anew.
+#[cycle(printed)]
+fn is_printed(item: &Item) -> bool
+    ensures { result ≡ holds_bytes (printed_item item.now).among }
+{
+    match item {
+        Item::Style(style) => is_any_printed(style.items.as_slice()),
+        Item::Plain(declarations) => !declarations.is_empty(),
+    }
+}
+
+// Whether anything of these items is printed.
+#[cycle(printed)]
+fn is_any_printed(items: &[Item]) -> bool
+    ensures { result ≡ holds_bytes (flat_map (λ item. (printed_item item).among) items.now) }
+{
+    for item in items {
+        if is_printed(item) {
+            return true;
+        }
+    }
+    false
+}
+
+// Writes an item that stands in the sheet, or with others in a block.
+#[cycle(print)]
+fn write_item(item: &Item, out: &mut List<u8>) -> Result<(), OutOfMemory>
+    ensures ok { OnOk result (out.new ≡ out.old ++ (printed_item item.now).among) }
+    ensures err { OnErr result (AppendsFront out.old out.new (printed_item item.now).among) }
+{
+    match item {
+        Item::Style(style) => write_style(style, out),
+        Item::Plain(declarations) => write_ended(declarations.as_slice(), out),
+    }
+}
+
+// Writes an item that is alone in its block.
+#[cycle(print)]
+fn write_alone(item: &Item, out: &mut List<u8>) -> Result<(), OutOfMemory>
+    ensures ok { OnOk result (out.new ≡ out.old ++ (printed_item item.now).alone) }
+    ensures err { OnErr result (AppendsFront out.old out.new (printed_item item.now).alone) }
+{
+    match item {
+        Item::Style(style) => write_style(style, out),
+        Item::Plain(declarations) => write_declarations(declarations.as_slice(), out),
+    }
+}
+
+// Writes a style rule, where anything in it is printed.
+#[cycle(print)]
+fn write_style(style: &Style, out: &mut List<u8>) -> Result<(), OutOfMemory>
+    ensures ok { OnOk result (out.new ≡ out.old ++ (printed_item (the_style style.now)).among) }
+    ensures err { OnErr result (AppendsFront out.old out.new (printed_item (the_style style.now)).among) }
+{
+    if is_any_printed(style.items.as_slice()) {
+        return write_rule(style, out);
+    }
+    Ok(())
+}
+
+// Writes the selector list of a style rule and its block, and a line feed behind it.
+#[cycle(print)]
+fn write_rule(style: &Style, out: &mut List<u8>) -> Result<(), OutOfMemory>
+    ensures ok { OnOk result (out.new ≡ out.old ++ braced_text (bare_list style.now.selectors) (block_text (map printed_item style.now.items))) }
+    ensures err { OnErr result (AppendsFront out.old out.new (braced_text (bare_list style.now.selectors) (block_text (map printed_item style.now.items)))) }
+{
+    write_list(style.selectors.as_slice(), out)?;
+    out.extend_from_slice(b"{")?;
+    write_block(style.items.as_slice(), out)?;
+    out.extend_from_slice(b"}\n")
+}
+
+// Writes what stands in a block.
+#[cycle(print)]
+fn write_block(items: &[Item], out: &mut List<u8>) -> Result<(), OutOfMemory>
+    ensures ok { OnOk result (out.new ≡ out.old ++ block_text (map printed_item items.now)) }
+    ensures err { OnErr result (AppendsFront out.old out.new (block_text (map printed_item items.now))) }
+{
+    match items {
+        [] => Ok(()),
+        [item] => write_alone(item, out),
+        [_, _, ..] => write_items(items, out),
+    }
+}
+
+// Writes items one after another.
+#[cycle(print)]
+fn write_items(items: &[Item], out: &mut List<u8>) -> Result<(), OutOfMemory>
+    ensures ok { OnOk result (out.new ≡ out.old ++ flat_map (λ item. (printed_item item).among) items.now) }
+    ensures err { OnErr result (AppendsFront out.old out.new (flat_map (λ item. (printed_item item).among) items.now)) }
+{
+    for item in items {
+        write_item(item, out)?;
+    }
+    Ok(())
+}
+
+// The text of a sheet.
 pub(crate) fn print(alloc: Global, sheet: &Sheet) -> Result<List<u8>, OutOfMemory>
-    ensures { IfOk result (λ text. text ≡ sheet_text (runs_of sheet.now)) }
+    ensures { IfOk result (λ text. text ≡ sheet_text sheet.now) }
 {
     let mut text = List::new(alloc);
-    write_items(sheet.items.as_slice(), &[], &mut text)?;
+    write_items(sheet.items.as_slice(), &mut text)?;
     Ok(text)
 }

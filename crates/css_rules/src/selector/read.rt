@@ -1,13 +1,15 @@
-ghost use Rattle.css_rules.specs.SelectorSteps.{chained, concluded, faults_from, fresh, joined, list_from, of_type, on_combinator, on_dot, on_name, on_part, on_type, on_white, pending_fault, pending_selector, pending_step, step, with_simple};
+ghost use Rattle.css_rules.specs.SelectorSteps.{chained, concluded, faults_from, fresh, joined, linked, list_from, of_type, on_combinator, on_dot, on_name, on_part, on_type, on_white, pending_fault, pending_selector, pending_step, reading, step, with_simple};
+ghost use Rattle.css_rules.specs.declared.selector.read.Phase.TheVariants.{Inside};
 ghost use Rattle.css_rules.specs.Selectors.{list_faults, list_of};
 ghost use Rattle.css_rules.specs.SelectorFaults.{FaultIs, IsFirstFault};
 ghost use Rattle.css_rules.specs.declared.selector.read.SelectorFault.TheVariants.{Memory, Syntax};
-ghost use Rattle.std.specs.Prelude.{◌≡◌, [], ◌∷◌, IfOk, IfErr, Some, None};
+ghost use Rattle.std.specs.Prelude.{◌≡◌, [], ◌∷◌, IfOk, IfErr, OnOk, Some, None};
 
 use crate::selector::sign::{Sign, is_comma, is_gap, place_of, sign_of};
 use crate::selector::{Combinator, Compound, Link, Part, Selector, Simple, TypeName};
 use css_tokens::{Component, List, OutOfMemory, Text};
 use std::alloc::Global;
+use std::mem;
 use thiserror::Error;
 
 /// Why a selector list is refused.
@@ -37,18 +39,26 @@ enum Front<'a> {
 }
 
 /// How far a selector is read.
-#[derive(Debug, Drop)]
-enum Reading<'a> {
+#[derive(Clone, Copy, Debug)]
+enum Phase {
     /// A compound has to follow.
-    Due(Front<'a>),
+    Due,
     /// In a compound.
-    Inside(Front<'a>, Compound<'a>),
+    Inside,
     /// Behind a `.`, of which the place is kept.
-    Dotted(Front<'a>, Compound<'a>, u32),
+    Dotted(u32),
     /// In white space behind a compound.
-    Behind(Front<'a>, Compound<'a>),
+    Behind,
     /// What stands there is no selector.
     Failed,
+}
+
+/// A selector that is being read, and its last compound.
+#[derive(Debug, Drop)]
+struct Reading<'a> {
+    phase: Phase,
+    front: Front<'a>,
+    compound: Compound<'a>,
 }
 
 /// A member of a list that is being read, and the place of its first token.
@@ -56,15 +66,6 @@ enum Reading<'a> {
 struct Pending<'a> {
     reading: Reading<'a>,
     place: Option<u32>,
-}
-
-fn fresh<'a>() -> Pending<'a>
-    ensures { result ≡ fresh }
-{
-    Pending {
-        reading: Reading::Due(Front::Nothing),
-        place: None,
-    }
 }
 
 fn of_type<'a>(alloc: Global, kind: TypeName<'a>) -> Compound<'a>
@@ -76,158 +77,178 @@ fn of_type<'a>(alloc: Global, kind: TypeName<'a>) -> Compound<'a>
     }
 }
 
-fn joined<'a>(
-    alloc: Global,
-    front: Front<'a>,
-    compound: Compound<'a>,
-    combinator: Combinator,
-) -> Result<Front<'a>, OutOfMemory>
-    ensures { IfOk result (λ r. r ≡ joined front.entry compound.entry combinator) }
+fn fresh<'a>(alloc: Global) -> Pending<'a>
+    ensures { result ≡ fresh }
 {
-    match front {
-        Front::Nothing => Ok(Front::Joined(compound, List::new(alloc), combinator)),
-        Front::Joined(first, mut rest, before) => {
-            rest.push(Link {
-                combinator: before,
-                compound,
-            })?;
-            Ok(Front::Joined(first, rest, combinator))
-        }
+    Pending {
+        reading: Reading {
+            phase: Phase::Due,
+            front: Front::Nothing,
+            compound: of_type(alloc, TypeName::None),
+        },
+        place: None,
     }
 }
 
-fn with_simple<'a>(
-    compound: Compound<'a>,
-    simple: Simple<'a>,
-    at: u32,
-) -> Result<Compound<'a>, OutOfMemory>
-    ensures { IfOk result (λ r. r ≡ with_simple compound.entry simple.entry at) }
-{
-    let Compound { kind, mut parts } = compound;
-    parts.push(Part { simple, at })?;
-    Ok(Compound { kind, parts })
-}
-
-fn on_type<'a>(
-    alloc: Global,
-    kind: TypeName<'a>,
-    reading: Reading<'a>,
-) -> Result<Reading<'a>, OutOfMemory>
-    ensures { IfOk result (λ r. r ≡ on_type kind.entry reading.entry) }
-{
-    match reading {
-        Reading::Due(front) => Ok(Reading::Inside(front, of_type(alloc, kind))),
-        Reading::Behind(front, compound) => {
-            let front = joined(alloc, front, compound, Combinator::Descendant)?;
-            Ok(Reading::Inside(front, of_type(alloc, kind)))
+impl<'a> Front<'a> {
+    /// One more compound, and the combinator behind it.
+    fn join(
+        &mut self,
+        alloc: Global,
+        compound: Compound<'a>,
+        combinator: Combinator,
+    ) -> Result<(), OutOfMemory>
+        ensures { OnOk result (self.new ≡ joined self.old compound.entry combinator) }
+    {
+        match self {
+            Front::Nothing => {
+                *self = Front::Joined(compound, List::new(alloc), combinator);
+            }
+            Front::Joined(_, _, last) => {
+                let before = mem::replace(last, combinator);
+                if let Front::Joined(_, rest, _) = self {
+                    rest.push(Link {
+                        combinator: before,
+                        compound,
+                    })?;
+                }
+            }
         }
-        _ => Ok(Reading::Failed),
+        Ok(())
     }
 }
 
-fn on_name<'a>(
-    alloc: Global,
-    name: Text<'a>,
-    reading: Reading<'a>,
-) -> Result<Reading<'a>, OutOfMemory>
-    ensures { IfOk result (λ r. r ≡ on_name name.entry reading.entry) }
-{
-    match reading {
-        Reading::Dotted(front, compound, at) => {
-            let compound = with_simple(compound, Simple::Class(name), at)?;
-            Ok(Reading::Inside(front, compound))
-        }
-        other => on_type(alloc, TypeName::Name(name), other),
+impl<'a> Reading<'a> {
+    /// A compound begins.
+    fn begin(&mut self, alloc: Global, phase: Phase, kind: TypeName<'a>)
+        ensures { self.new ≡ reading phase self.old.front (of_type kind.entry) }
+    {
+        self.phase = phase;
+        self.compound = of_type(alloc, kind);
     }
-}
 
-fn on_dot<'a>(alloc: Global, at: u32, reading: Reading<'a>) -> Result<Reading<'a>, OutOfMemory>
-    ensures { IfOk result (λ r. r ≡ on_dot at reading.entry) }
-{
-    match reading {
-        Reading::Due(front) => Ok(Reading::Dotted(front, of_type(alloc, TypeName::None), at)),
-        Reading::Inside(front, compound) => Ok(Reading::Dotted(front, compound, at)),
-        Reading::Behind(front, compound) => {
-            let front = joined(alloc, front, compound, Combinator::Descendant)?;
-            Ok(Reading::Dotted(front, of_type(alloc, TypeName::None), at))
-        }
-        _ => Ok(Reading::Failed),
+    /// A combinator behind the last compound. Behind a refusal for want of memory the reading is of no use.
+    fn join(&mut self, alloc: Global, combinator: Combinator) -> Result<(), OutOfMemory>
+        ensures { OnOk result (self.new ≡ linked combinator self.old.front self.old.compound) }
+    {
+        let compound = mem::replace(&mut self.compound, of_type(alloc, TypeName::None));
+        self.front.join(alloc, compound, combinator)?;
+        self.phase = Phase::Due;
+        Ok(())
     }
-}
 
-fn on_part<'a>(
-    alloc: Global,
-    simple: Simple<'a>,
-    at: u32,
-    reading: Reading<'a>,
-) -> Result<Reading<'a>, OutOfMemory>
-    ensures { IfOk result (λ r. r ≡ on_part simple.entry at reading.entry) }
-{
-    match reading {
-        Reading::Due(front) => {
-            let compound = with_simple(of_type(alloc, TypeName::None), simple, at)?;
-            Ok(Reading::Inside(front, compound))
-        }
-        Reading::Inside(front, compound) => {
-            let compound = with_simple(compound, simple, at)?;
-            Ok(Reading::Inside(front, compound))
-        }
-        Reading::Behind(front, compound) => {
-            let front = joined(alloc, front, compound, Combinator::Descendant)?;
-            let compound = with_simple(of_type(alloc, TypeName::None), simple, at)?;
-            Ok(Reading::Inside(front, compound))
-        }
-        _ => Ok(Reading::Failed),
+    /// One more part of the last compound.
+    fn add(&mut self, simple: Simple<'a>, at: u32) -> Result<(), OutOfMemory>
+        ensures { OnOk result (self.new ≡ reading Inside self.old.front (with_simple self.old.compound simple.entry at)) }
+    {
+        self.compound.parts.push(Part { simple, at })?;
+        self.phase = Phase::Inside;
+        Ok(())
     }
-}
 
-fn on_white<'a>(reading: Reading<'a>) -> Reading<'a>
-    ensures { result ≡ on_white reading.entry }
-{
-    match reading {
-        Reading::Due(front) => Reading::Due(front),
-        Reading::Inside(front, compound) => Reading::Behind(front, compound),
-        Reading::Behind(front, compound) => Reading::Behind(front, compound),
-        _ => Reading::Failed,
-    }
-}
-
-fn on_combinator<'a>(
-    alloc: Global,
-    combinator: Combinator,
-    reading: Reading<'a>,
-) -> Result<Reading<'a>, OutOfMemory>
-    ensures { IfOk result (λ r. r ≡ on_combinator combinator reading.entry) }
-{
-    match reading {
-        Reading::Inside(front, compound) => {
-            let front = joined(alloc, front, compound, combinator)?;
-            Ok(Reading::Due(front))
+    fn on_type(&mut self, alloc: Global, kind: TypeName<'a>) -> Result<(), OutOfMemory>
+        ensures { OnOk result (self.new ≡ on_type kind.entry self.old.phase self.old.front self.old.compound) }
+    {
+        match self.phase {
+            Phase::Due => self.begin(alloc, Phase::Inside, kind),
+            Phase::Behind => {
+                self.join(alloc, Combinator::Descendant)?;
+                self.begin(alloc, Phase::Inside, kind);
+            }
+            _ => self.phase = Phase::Failed,
         }
-        Reading::Behind(front, compound) => {
-            let front = joined(alloc, front, compound, combinator)?;
-            Ok(Reading::Due(front))
-        }
-        _ => Ok(Reading::Failed),
+        Ok(())
     }
-}
 
-/// What one more sign makes of a reading.
-fn step<'a>(alloc: Global, sign: Sign<'a>, reading: Reading<'a>) -> Result<Reading<'a>, OutOfMemory>
-    ensures { IfOk result (λ r. r ≡ step sign.entry reading.entry) }
-{
-    match sign {
-        Sign::Comment => Ok(reading),
-        Sign::White => Ok(on_white(reading)),
-        Sign::Child => on_combinator(alloc, Combinator::Child, reading),
-        Sign::Next => on_combinator(alloc, Combinator::Next, reading),
-        Sign::Later => on_combinator(alloc, Combinator::Later, reading),
-        Sign::Name(name) => on_name(alloc, name, reading),
-        Sign::Star => on_type(alloc, TypeName::Universal, reading),
-        Sign::Dot(at) => on_dot(alloc, at, reading),
-        Sign::Id(name, at) => on_part(alloc, Simple::Id(name), at, reading),
-        Sign::Parent(at) => on_part(alloc, Simple::Parent, at, reading),
-        Sign::Other => Ok(Reading::Failed),
+    fn on_name(&mut self, alloc: Global, name: Text<'a>) -> Result<(), OutOfMemory>
+        ensures { OnOk result (self.new ≡ on_name name.entry self.old.phase self.old.front self.old.compound) }
+    {
+        match self.phase {
+            Phase::Dotted(at) => self.add(Simple::Class(name), at),
+            _ => self.on_type(alloc, TypeName::Name(name)),
+        }
+    }
+
+    fn on_dot(&mut self, alloc: Global, at: u32) -> Result<(), OutOfMemory>
+        ensures { OnOk result (self.new ≡ on_dot at self.old.phase self.old.front self.old.compound) }
+    {
+        match self.phase {
+            Phase::Due => self.begin(alloc, Phase::Dotted(at), TypeName::None),
+            Phase::Inside => self.phase = Phase::Dotted(at),
+            Phase::Behind => {
+                self.join(alloc, Combinator::Descendant)?;
+                self.phase = Phase::Dotted(at);
+            }
+            _ => self.phase = Phase::Failed,
+        }
+        Ok(())
+    }
+
+    fn on_part(&mut self, alloc: Global, simple: Simple<'a>, at: u32) -> Result<(), OutOfMemory>
+        ensures { OnOk result (self.new ≡ on_part simple.entry at self.old.phase self.old.front self.old.compound) }
+    {
+        match self.phase {
+            Phase::Due => {
+                self.begin(alloc, Phase::Inside, TypeName::None);
+                self.add(simple, at)
+            }
+            Phase::Inside => self.add(simple, at),
+            Phase::Behind => {
+                self.join(alloc, Combinator::Descendant)?;
+                self.add(simple, at)
+            }
+            _ => {
+                self.phase = Phase::Failed;
+                Ok(())
+            }
+        }
+    }
+
+    fn on_white(&mut self)
+        ensures { self.new ≡ on_white self.old.phase self.old.front self.old.compound }
+    {
+        match self.phase {
+            Phase::Due | Phase::Behind => {}
+            Phase::Inside => self.phase = Phase::Behind,
+            _ => self.phase = Phase::Failed,
+        }
+    }
+
+    fn on_combinator(&mut self, alloc: Global, combinator: Combinator) -> Result<(), OutOfMemory>
+        ensures { OnOk result (self.new ≡ on_combinator combinator self.old.phase self.old.front self.old.compound) }
+    {
+        match self.phase {
+            Phase::Inside | Phase::Behind => self.join(alloc, combinator),
+            _ => {
+                self.phase = Phase::Failed;
+                Ok(())
+            }
+        }
+    }
+
+    /// One more sign.
+    fn step(&mut self, alloc: Global, sign: Sign<'a>) -> Result<(), OutOfMemory>
+        ensures { OnOk result (self.new ≡ step sign.entry self.old) }
+    {
+        match sign {
+            Sign::Comment => Ok(()),
+            Sign::White => {
+                self.on_white();
+                Ok(())
+            }
+            Sign::Child => self.on_combinator(alloc, Combinator::Child),
+            Sign::Next => self.on_combinator(alloc, Combinator::Next),
+            Sign::Later => self.on_combinator(alloc, Combinator::Later),
+            Sign::Name(name) => self.on_name(alloc, name),
+            Sign::Star => self.on_type(alloc, TypeName::Universal),
+            Sign::Dot(at) => self.on_dot(alloc, at),
+            Sign::Id(name, at) => self.on_part(alloc, Simple::Id(name), at),
+            Sign::Parent(at) => self.on_part(alloc, Simple::Parent, at),
+            Sign::Other => {
+                self.phase = Phase::Failed;
+                Ok(())
+            }
+        }
     }
 }
 
@@ -261,22 +282,17 @@ fn chained<'a>(
     }
 }
 
-/// One more component of a member.
-fn pending_step<'a>(
-    alloc: Global,
-    pending: Pending<'a>,
-    component: &Component<'a>,
-) -> Result<Pending<'a>, OutOfMemory>
-    ensures { IfOk result (λ r. r ≡ pending_step pending.entry component.now) }
-{
-    let Pending { reading, place } = pending;
-    let reading = step(alloc, sign_of(component), reading)?;
-    let place = match place {
-        Some(at) => Some(at),
-        None if is_gap(component) => None,
-        None => Some(place_of(component)),
-    };
-    Ok(Pending { reading, place })
+impl<'a> Pending<'a> {
+    /// One more component of the member.
+    fn step(&mut self, alloc: Global, component: &Component<'a>) -> Result<(), OutOfMemory>
+        ensures { OnOk result (self.new ≡ pending_step self.old component.now) }
+    {
+        self.reading.step(alloc, sign_of(component))?;
+        if self.place.is_none() && !is_gap(component) {
+            self.place = Some(place_of(component));
+        }
+        Ok(())
+    }
 }
 
 /// The selector that a member spells. One that spells none is refused at its first token, or where it ends.
@@ -291,9 +307,13 @@ fn conclude<'a>(
 {
     let Pending { reading, place } = pending;
     let at = place.unwrap_or(0);
-    match reading {
-        Reading::Inside(front, compound) => Ok(chained(alloc, at, front, compound)?),
-        Reading::Behind(front, compound) => Ok(chained(alloc, at, front, compound)?),
+    let Reading {
+        phase,
+        front,
+        compound,
+    } = reading;
+    match phase {
+        Phase::Inside | Phase::Behind => Ok(chained(alloc, at, front, compound)?),
         _ => Err(SelectorFault::Syntax(place.unwrap_or(stop))),
     }
 }
@@ -311,13 +331,13 @@ pub fn read_list<'a>(
     ensures fault { IfErr result (λ e. IsFirstFault e (list_faults prelude.now end)) }
 {
     let mut list = List::new(alloc);
-    let mut pending = fresh();
+    let mut pending = fresh(alloc);
     for component in prelude {
         if is_comma(component) {
             list.push(conclude(alloc, pending, place_of(component))?)?;
-            pending = fresh();
+            pending = fresh(alloc);
         } else {
-            pending = pending_step(alloc, pending, component)?;
+            pending.step(alloc, component)?;
         }
     }
     list.push(conclude(alloc, pending, end)?)?;

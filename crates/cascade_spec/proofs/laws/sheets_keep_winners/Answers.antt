@@ -1,5 +1,5 @@
 use Rattle.std.proofs.Common.{◌∙◌, ap, sym}
-use Rattle.css_rules.specs.Runs.{bare_runs, runs_of}
+use Rattle.css_rules.specs.Runs.{bare_runs}
 use Rattle.css_rules.specs.Sheets.{sheet_of}
 use Rattle.css_rules.specs.SheetTexts.{sheet_text}
 use Rattle.cascade_spec.proofs.KeepsLemmas.{SheetLaws, again-keeps, one-sheet, reads-again}
@@ -12,7 +12,8 @@ returns c =
       one = c.one_reading.ensures.one;
       names = c.names_spell.ensures.plain;
       first = c.names_spell.ensures.first;
-      printable = c.sheets_are_printable.ensures;
+      flat = c.sheets_are_printable.ensures.flat;
+      printable = c.sheets_are_printable.ensures.printable;
       standing = c.values_stand.ensures;
       reads = again.reads;
       formed = again.formed;
@@ -22,6 +23,6 @@ returns c =
     } in
     record {
       again = reads-again laws;
-      kept = λ source cs plain read. again-keeps source (sheet_text (runs_of (sheet_of cs))) (reads-again laws source cs plain read);
+      kept = λ source cs plain read. again-keeps source (sheet_text (sheet_of cs)) (reads-again laws source cs plain read);
       one = λ text a b p q. ap bare_runs p.2 ∙ one-sheet laws text p.0 q.0 p.1 q.1 ∙ sym (ap bare_runs q.2);
     }

@@ -1,5 +1,6 @@
+use Rattle.css_rules.proofs.FlatTexts.{text-sheet_of}
 use Rattle.css_rules.proofs.FromSourceRules.{sheet-printable}
 use Rattle.css_rules.proofs.sheet_laws.sheets_are_printable.Goals as goal
 
 pub returns : goal.returns
-returns c = sheet-printable
+returns c = record { flat = text-sheet_of; printable = sheet-printable }

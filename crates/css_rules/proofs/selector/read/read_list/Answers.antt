@@ -1,7 +1,7 @@
 use Rattle.std.proofs.Common.{◌∙◌, sym, drop, ◌+◌}
 use Rattle.css_rules.proofs.SelectorReading.{list-fresh, faults-fresh, at-item, comma-turn, more-turn}
 use Rattle.css_rules.proofs.selector.read.read_list.Goals as goal
-use Rattle.css_rules.proofs.selector.read.read_list.Goals.{then-is_comma+in_ok-conclude+in_ok-push, else-is_comma+in_ok-pending}
+use Rattle.css_rules.proofs.selector.read.read_list.Goals.{then-is_comma+in_ok-conclude+in_ok-push, else-is_comma+in_ok-step}
 
 pub loop-component-init : goal.loop-component-init
 loop-component-init c = record {
@@ -19,7 +19,7 @@ loop-component-preserved c =
       | then-is_comma+in_ok-conclude+in_ok-push w ↦
           (let turn = comma-turn c.loop-component.list c.if-is_comma.list c.loop-component.pending c.if-is_comma.pending item (drop i all) (drop (i + 1) all) all w.in_ok-conclude.field-0 w.place_of.result c.args.end here (sym c.is_comma.ensures ∙ w.if-is_comma.true) w.place_of.ensures w.in_ok-conclude.ensures.found w.in_ok-conclude.ensures.sound (w.list-is ∙ w.in_ok-push.ensures.ok) (w.pending-is ∙ w.fresh-pending-then-is_comma.ensures) c.loop-component.invariant.read c.loop-component.invariant.refused in
           record { read = turn.0; refused = turn.1 })
-      | else-is_comma+in_ok-pending w ↦
-          (let turn = more-turn c.loop-component.list c.if-is_comma.list c.loop-component.pending c.if-is_comma.pending item (drop i all) (drop (i + 1) all) all c.args.end here (sym c.is_comma.ensures ∙ w.if-is_comma.false) w.list-is (w.pending-is ∙ w.in_ok-pending.ensures) c.loop-component.invariant.read c.loop-component.invariant.refused in
+      | else-is_comma+in_ok-step w ↦
+          (let turn = more-turn c.loop-component.list c.if-is_comma.list c.loop-component.pending c.if-is_comma.pending item (drop i all) (drop (i + 1) all) all c.args.end here (sym c.is_comma.ensures ∙ w.if-is_comma.false) w.list-is (w.pending-is ∙ w.in_ok-step.ensures) c.loop-component.invariant.read c.loop-component.invariant.refused in
           record { read = turn.0; refused = turn.1 })
     ]
