@@ -1,4 +1,4 @@
--- What a sheet says, places aside: its runs of declarations in order of position, each with the selector lists round it (CSS Nesting 1, section 3).
+-- What a sheet says, places aside: its runs of declarations in order of position, each with the selector lists round it (CSS Nesting 1, section 2).
 use Rattle.std.specs.Prelude.{ℕ, List, [], ◌∷◌, ◌++◌, map, flat_map, Bool}
 use Rattle.css_tokens.specs.Values.{value_text}
 use Rattle.css_rules.specs.declared.sheet.Declaration.{Declaration}
