@@ -26,7 +26,7 @@ pub fn lines_and_columns()
     ensures form_feed { line_of (12 ∷ 12 ∷ []) 2 ≡ 1 }
 {}
 
-/// Which elements of the page a selector at the top of a sheet matches (Selectors 4, sections 5, 6 and 14).
+/// Which elements of the page a selector at the top of a sheet matches (Selectors 4, sections 5, 6 and 15).
 pub fn selectors_match()
     ensures universal { matched top (one every) ≡ 0 ∷ 1 ∷ 2 ∷ 3 ∷ 4 ∷ 5 ∷ [] }
     ensures type_name { matched top (one (kind "p")) ≡ 2 ∷ 3 ∷ [] }

@@ -8,7 +8,7 @@ pub use laws::{selector_text_reads, selector_words_are_neighbours, selectors_are
 pub use read::{SelectorFault, read_list};
 pub use write::write_list;
 
-/// How the elements of two neighbouring compounds stand to each other (Selectors 4, section 14).
+/// How the elements of two neighbouring compounds stand to each other (Selectors 4, section 15).
 #[derive(Clone, Copy, Debug, PartialEq, Eq)]
 pub enum Combinator {
     /// White space: an ancestor.

@@ -4,10 +4,6 @@ use Rattle.std.specs.List.{list_any}
 use Rattle.css_tokens.specs.declared.class.Class.{Class}
 use Rattle.css_tokens.specs.declared.class.Class.TheVariants as class
 
--- is the byte one of these?
-abbrev pub is_among : List ℕ → ℕ → Bool
-is_among bytes b = list_any (nat_eq b) bytes
-
 -- is the byte between the first and the last, both included?
 abbrev pub is_from_to : ℕ → ℕ → ℕ → Bool
 is_from_to first last b = nat_le first b && nat_le b last

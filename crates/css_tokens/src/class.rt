@@ -57,7 +57,7 @@ pub(crate) fn classify(byte: u8) -> Class
     }
 }
 
-/// The class of a byte that is neither in names nor in numbers, nor white space.
+/// The class of a byte that is none of those above.
 fn classify_mark(byte: u8) -> Class
     ensures { result ≡ mark_of byte }
 {

@@ -318,7 +318,7 @@ fn conclude<'a>(
     }
 }
 
-/// Reads a selector list (Selectors 4, section 17): type names, `*`, classes, ids, `&` and the four combinators, without a
+/// Reads a selector list (Selectors 4, section 18): type names, `*`, classes, ids, `&` and the four combinators, without a
 /// leading one. `end` is the place behind the list. A member that is no selector is refused, the first of several, at its
 /// first token that is neither white space nor a comment, or at the `,` behind it, or at `end`.
 pub fn read_list<'a>(

@@ -3,7 +3,7 @@ ghost use Rattle.std.specs.Prelude.{◌≡◌};
 
 use css_tokens::{Component, Kind, Text, Token, is_plain_name};
 
-/// What a component value is to the grammar of selectors (Selectors 4, section 17).
+/// What a component value is to the grammar of selectors (Selectors 4, section 18).
 #[derive(Debug, Drop)]
 pub enum Sign<'a> {
     /// A comment, which counts as nothing.
@@ -22,7 +22,7 @@ pub enum Sign<'a> {
     Star,
     /// `.`, with its place.
     Dot(u32),
-    /// A Hash whose text after `#` spells an Ident, with its place.
+    /// A Hash whose text after `#` is a name in ASCII without escapes, with its place.
     Id(Text<'a>, u32),
     /// `&`, with its place.
     Parent(u32),
@@ -30,7 +30,7 @@ pub enum Sign<'a> {
     Other,
 }
 
-/// What a Hash is: an id where its text after `#` spells an Ident.
+/// What a Hash is: an id where its text after `#` is a name in ASCII without escapes.
 fn id_of<'a>(text: &'a str, at: u32) -> Sign<'a>
     ensures { result ≡ id_of text.now at }
 {
