@@ -11,7 +11,7 @@ use Rattle.std.proofs.lemmas.Slice.Eq.{bytes_eq-Decides}
 use Rattle.std.proofs.lemmas.Grind.{common_steps}
 use Rattle.css_outside.specs.Names.{bytes_under, Same}
 use Rattle.css_outside.specs.Putting.{Puts}
-use Rattle.css_outside.specs.Spaces.{held_of, held_in, is_named}
+use Rattle.css_outside.specs.Spaces.{held_of, held_in, is_named, room_of, room_in}
 use Rattle.css_outside.specs.declared.memory.space.Space.{Space}
 
 place_some : {X : Type 0} (p : X → Bool) (xs : List X) (i : ℕ) → position p xs ≡ Some i → (i ≡ position_or_len p xs) × (i < length xs)
@@ -32,6 +32,9 @@ passes_at p xs i d h =
 
 held_by : Option Space → Option (List ℕ)
 held_by found = option_map_or held_of found None
+
+room_by : Option Space → ℕ
+room_by found = option_map_or room_of found 0
 
 pub held_none : (spaces : List Space) (name : List ℕ) → position (is_named name) spaces ≡ None → held_in spaces name ≡ None
 unfolding held_by
@@ -54,6 +57,12 @@ module _ (spaces : List Space) (name : List ℕ) (i : ℕ) (y d : Space) (place 
   held_set =
       let e : (i ≡ position_or_len (is_named name) spaces) × (i < length spaces) = place_some (is_named name) spaces i place in
       ap held_by (find-set (is_named name) spaces i y e.0 e.1 (ap (λ n. bytes_eq (string_bytes n) name) same ∙ passes_at (is_named name) spaces i d place))
+
+  pub room_set : room_in (set spaces i y) name ≡ room_of y
+  unfolding room_by
+  room_set =
+      let e : (i ≡ position_or_len (is_named name) spaces) × (i < length spaces) = place_some (is_named name) spaces i place in
+      ap room_by (find-set (is_named name) spaces i y e.0 e.1 (ap (λ n. bytes_eq (string_bytes n) name) same ∙ passes_at (is_named name) spaces i d place))
 
   pub held_set_other : (other : List ℕ) → other ≢ name → held_in (set spaces i y) other ≡ held_in spaces other
   unfolding held_by
@@ -97,3 +106,14 @@ none_more (Some x) more none = refl
 pub kept_more : (spaces : List Space) (y : Space) → held_of y ≡ None → Same (held_in spaces) (held_in (spaces ++ y ∷ []))
 unfolding held_by
 kept_more spaces y fresh other = ap held_by (find-append (is_named other) spaces (y ∷ [])) ∙ none_more (find (is_named other) spaces) (find (is_named other) (y ∷ [])) (none_alone y other fresh)
+
+only : (name : List ℕ) (y : Space) (t : Bool) → t ≡ true → room_by (cond t (Some y) None) ≡ room_of y
+unfolding room_by
+only name y t e = ap (λ b. room_by (cond b (Some y) None)) e
+
+pub room_more : (spaces : List Space) (name : List ℕ) (y : Space) → position (is_named name) spaces ≡ None → string_bytes y.name ≡ name → room_in (spaces ++ y ∷ []) name ≡ room_of y
+unfolding room_by
+room_more spaces name y none named =
+    let nothing : find (is_named name) spaces ≡ None = find_at (is_named name) spaces ∙ slice_get_past spaces (position_or_len (is_named name) spaces) (place_none (is_named name) spaces none) in
+    ap room_by (find-append (is_named name) spaces (y ∷ []) ∙ ap (λ found. option_or found (find (is_named name) (y ∷ []))) nothing)
+    ∙ only name y (is_named name y) ((bytes_eq-Decides (string_bytes y.name) name).1 named)

@@ -3,3 +3,4 @@ pub mod Counts
 pub mod Reading
 pub mod Putting
 pub mod Spaces
+pub mod Rooms

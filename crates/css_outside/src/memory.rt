@@ -2,6 +2,7 @@
 mod find;
 mod memory_files;
 mod memory_outbox;
+mod reserve;
 mod space;
 mod sure_files;
 #[cfg(test)]

@@ -1,8 +1,8 @@
 ghost use Rattle.std.specs.Prelude.{◌≡◌, ◌≤◌, [], Some, IfSome};
 ghost use Rattle.std.specs.Option.{option_map};
-ghost use Rattle.css_outside.specs.Names.{no_names, Told, Same};
+ghost use Rattle.css_outside.specs.Names.{no_names};
 
-use super::space::{Space, add_under, held_under, widen_under};
+use super::space::{Space, add_under, held_under};
 use crate::put_faults::PutFaults;
 use crate::{Outbox, PutFailed};
 use css_tokens::{List, OutOfMemory, Text};
@@ -11,8 +11,8 @@ use std::alloc::Global;
 /// Outputs in memory, of which puts can be made to fail. They tell what they hold.
 #[derive(Debug, Drop)]
 pub struct MemoryOutbox {
-    alloc: Global,
-    spaces: Vec<Space>,
+    pub(super) alloc: Global,
+    pub(super) spaces: Vec<Space>,
     ready: List<Text<'static>>,
     most: u32,
     failing: List<u32>,
@@ -40,16 +40,6 @@ impl MemoryOutbox {
             puts: 0,
             faults: PutFaults::none(),
         }
-    }
-
-    /// Makes space for this many more bytes under a name. Nothing that is held, ready or counted changes.
-    pub fn reserve(&mut self, name: &str, bytes: usize) -> Result<(), OutOfMemory>
-        ensures held { Told (⟦<MemoryOutbox as Outbox>⟧.held self.old) (⟦<MemoryOutbox as Outbox>⟧.held self.new) Same }
-        ensures ready { ⟦<MemoryOutbox as Outbox>⟧.ready self.new ≡ ⟦<MemoryOutbox as Outbox>⟧.ready self.old }
-        ensures message_count { ⟦<MemoryOutbox as Outbox>⟧.message_faults self.new ≡ ⟦<MemoryOutbox as Outbox>⟧.message_faults self.old }
-        ensures count { ⟦<MemoryOutbox as Outbox>⟧.faults self.new ≡ ⟦<MemoryOutbox as Outbox>⟧.faults self.old }
-    {
-        widen_under(&mut self.spaces, self.alloc, name, bytes)
     }
 
     /// The bytes that are held under a name, once there was a put to it.

@@ -1,6 +1,6 @@
-ghost use Rattle.std.specs.Prelude.{◌≡◌, ◌++◌, [], Some, None, IfOk, OnOk, OnErr, IsSome, string_bytes, position};
+ghost use Rattle.std.specs.Prelude.{◌≡◌, ◌≤◌, ◌++◌, [], Some, None, IfOk, OnOk, OnErr, IsSome, string_bytes, position};
 ghost use Rattle.std.specs.Option.{option_map, unwrap_or};
-ghost use Rattle.css_outside.specs.Spaces.{held_of, held_in, is_named};
+ghost use Rattle.css_outside.specs.Spaces.{held_of, held_in, is_named, room_of, room_in};
 ghost use Rattle.css_outside.specs.Names.{Same};
 ghost use Rattle.css_outside.specs.Putting.{Puts};
 
@@ -20,6 +20,7 @@ impl Space {
     fn new(alloc: Global, name: &str, bytes: usize) -> Result<Space, OutOfMemory>
         ensures name { IfOk result (λ space. string_bytes space.name ≡ name.now) }
         ensures held { IfOk result (λ space. held_of space ≡ None) }
+        ensures room { IfOk result (λ space. bytes ≤ room_of space) }
     {
         Ok(Space {
             name: String::from_str(alloc, name)?,
@@ -32,6 +33,7 @@ impl Space {
     fn widen(&mut self, bytes: usize) -> Result<(), OutOfMemory>
         ensures name { self.new.name ≡ self.old.name }
         ensures held { held_of self.new ≡ held_of self.old }
+        ensures room { OnOk result (bytes ≤ room_of self.new) }
     {
         self.bytes.reserve_exact(bytes)?;
         Ok(())
@@ -72,7 +74,8 @@ pub(super) fn widen_under(
     name: &str,
     bytes: usize,
 ) -> Result<(), OutOfMemory>
-    ensures { Same (held_in spaces.old.items) (held_in spaces.new.items) }
+    ensures held { Same (held_in spaces.old.items) (held_in spaces.new.items) }
+    ensures room { OnOk result (bytes ≤ room_in spaces.new.items name.now) }
 {
     match place(spaces.as_slice(), name) {
         Some(at) => spaces[at].widen(bytes),
