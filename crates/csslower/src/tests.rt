@@ -1,3 +1,4 @@
+mod nested;
 mod rows;
 
 use crate::gate::NoGate;
