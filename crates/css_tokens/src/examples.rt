@@ -3,6 +3,7 @@
 ghost use Rattle.std.specs.Prelude.{◌≡◌, List, [], ◌∷◌, true, false, Some, None, codes};
 ghost use Rattle.css_tokens.specs.declared.kind.Kind.TheVariants.{White, Comment, Ident, Function, Url, At, Hash, String as quoted, Number, Percentage, Dimension, Colon, Semicolon, Comma, Open, Close, Delim, Cdo, Cdc};
 ghost use Rattle.css_tokens.specs.Piece.{spelled};
+ghost use Rattle.css_tokens.specs.Names.{name_of_word};
 ghost use Rattle.css_tokens.specs.Pairing.{awaited, depth};
 ghost use Rattle.css_tokens.specs.Samples.{brackets, word};
 ghost use Rattle.css_tokens.specs.Tokens.{first_front, spells};
@@ -85,4 +86,15 @@ pub fn value_texts()
     ensures comment_and_space { spelled (printed_words (word Ident "a" ∷ word Comment "/* c */" ∷ word White "\t" ∷ word Ident "b" ∷ [])) ≡ codes "a b" }
     ensures no_ends { spelled (printed_words (word White " " ∷ word Ident "a" ∷ word Comment "/* c */" ∷ [])) ≡ codes "a" }
     ensures string { spelled (printed_words (word quoted "'a  b'" ∷ [])) ≡ codes "'a  b'" }
+{}
+
+/// The names that tokens hold: without what marks their kind, without quotes, and of a Url the address.
+pub fn names_of_tokens()
+    ensures ident { name_of_word Ident (codes "a-1") ≡ codes "a-1" }
+    ensures function { name_of_word Function (codes "calc(") ≡ codes "calc" }
+    ensures at_keyword { name_of_word At (codes "@media") ≡ codes "media" }
+    ensures hash { name_of_word Hash (codes "#1a") ≡ codes "1a" }
+    ensures string { name_of_word quoted (codes "'a\"b'") ≡ codes "a\"b" }
+    ensures url { name_of_word Url (codes "URL( a.png\n)") ≡ codes "a.png" }
+    ensures empty_url { name_of_word Url (codes "url()") ≡ [] }
 {}

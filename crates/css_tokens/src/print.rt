@@ -5,6 +5,7 @@ ghost use Rattle.css_tokens.specs.NameText.{name_text, code_escape, char_text, f
 ghost use Rattle.css_tokens.specs.PlainNames.{is_plain_name};
 ghost use Rattle.css_tokens.specs.NamePlaces.{place_after, is_early};
 
+use crate::plain::is_plain_name;
 use crate::{List, OutOfMemory};
 
 /// The hexadecimal digit of a number below 16, in lower case.
@@ -108,6 +109,19 @@ impl Place {
 /// Appends a name by the identifier serialization of CSSOM (section 2.1), which here escapes U+FEFF too. Where memory
 /// runs out, a front of the text is appended.
 pub fn write_name(name: &str, out: &mut List<u8>) -> Result<(), OutOfMemory>
+    requires { name.now ≢ [] }
+    ensures ok { OnOk result (out.new ≡ out.old ++ name_text name.now) }
+    ensures err { OnErr result (AppendsFront out.old out.new (name_text name.now)) }
+{
+    plain_name();
+    if is_plain_name(name) {
+        return out.extend_from_slice(name.as_bytes());
+    }
+    write_chars(name, out)
+}
+
+/// Appends a name character by character.
+fn write_chars(name: &str, out: &mut List<u8>) -> Result<(), OutOfMemory>
     requires { name.now ≢ [] }
     ensures ok { OnOk result (out.new ≡ out.old ++ name_text name.now) }
     ensures err { OnErr result (AppendsFront out.old out.new (name_text name.now)) }

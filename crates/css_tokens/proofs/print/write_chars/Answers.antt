@@ -8,7 +8,7 @@ use Rattle.css_tokens.specs.Trees.{is_text}
 use Rattle.css_tokens.specs.NameText.{chars_text, name_text}
 use Rattle.css_tokens.proofs.AppendLemmas.{appending_start}
 use Rattle.css_tokens.proofs.NameTextLemmas.{name_step, name_stop, name_end, name_text-chars}
-use Rattle.css_tokens.proofs.print.write_name.Goals as goal
+use Rattle.css_tokens.proofs.print.write_chars.Goals as goal
 
 pub loop-c-init : goal.loop-c-init
 loop-c-init c = appending_start c.args.out.now (chars_text (chars c.args.name.now))
