@@ -10,7 +10,8 @@ use Rattle.std.proofs.Math.Bool.{and-true, and-false}
 use Rattle.std.specs.List.{list_all}
 use Rattle.css_tokens.specs.declared.component.Component.{Component}
 use Rattle.css_rules.specs.Components.{is_gap}
-use Rattle.css_rules.specs.Cuts.{Cut, cuts, with_front, trimmed_start, trimmed_end, EndsCut}
+use Rattle.css_rules.specs.Cuts.{Cut, cuts, with_front, trimmed_start, trimmed_end}
+use Rattle.css_rules.specs.Private.Marks.{EndsCut}
 
 -- components put before the first cut
 abbrev pub prepended : List Component → List Cut → List Cut

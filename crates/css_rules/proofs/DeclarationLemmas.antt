@@ -6,7 +6,8 @@ use Rattle.std.specs.Str.{str_to_ascii_lowercase}
 use Rattle.std.proofs.lemmas.Bool.Decides.{nat_tests}
 use Rattle.css_tokens.specs.declared.component.Component.{Component}
 use Rattle.css_rules.specs.Components.{is_bang}
-use Rattle.css_rules.specs.Cuts.{Cut, cuts, trimmed, EndsCut}
+use Rattle.css_rules.specs.Cuts.{Cut, cuts, trimmed}
+use Rattle.css_rules.specs.Private.Marks.{EndsCut}
 use Rattle.css_rules.specs.Declarations.{value_of, is_important}
 use Rattle.css_rules.proofs.CutLemmas.{first_cut, EndsCut-at_mark, EndsCut-at_end}
 

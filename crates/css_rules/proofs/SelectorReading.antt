@@ -24,7 +24,7 @@ use Rattle.css_rules.specs.declared.selector.read.Reading.{Reading}
 use Rattle.css_rules.specs.declared.selector.read.Pending.{Pending}
 use Rattle.css_rules.specs.Signs.{sign_of, place_of, is_gap, is_comma}
 use Rattle.css_rules.specs.Selectors.{with_part, parts_of, compound_with, compound_of, stripped, white_before, sign_before, spaced, Runs, runs_of, with_link, links_of, selector_with, first_place, selector_of, Member, empty_before, with_component, cut_at_commas, fault_of, list_of, list_faults}
-use Rattle.css_rules.specs.SelectorSteps.{link, joined, chained, of_type, with_simple, reading, step, concluded, fresh, pending_step, pending_run, pending_selector, pending_fault, list_from, faults_from}
+use Rattle.css_rules.specs.Private.SelectorSteps.{link, joined, chained, of_type, with_simple, reading, step, concluded, fresh, pending_step, pending_run, pending_selector, pending_fault, list_from, faults_from}
 
 -- What a reading comes to, where these clean signs follow.
 

@@ -1,5 +1,5 @@
 -- Lists cut at marks, as rules and declarations are (CSS Syntax 3, section 5.4), and without white space and comments at their ends.
-use Rattle.std.specs.Prelude.{ℕ, List, [], ◌∷◌, ◌+◌, ◌≡◌, Bool, Option, Some, None, if◌then◌else◌, drop, slice_get, slice_range, MatchOption}
+use Rattle.std.specs.Prelude.{List, [], ◌∷◌, Bool, Option, Some, None, if◌then◌else◌}
 use Rattle.std.specs.List.{list_all}
 use Rattle.css_tokens.specs.declared.component.Component.{Component}
 use Rattle.css_rules.specs.Components.{is_gap}
@@ -32,10 +32,3 @@ trimmed_end (c ∷ cs) = if list_all is_gap (c ∷ cs) then [] else c ∷ trimme
 -- without white space and comments at either end
 abbrev pub trimmed : List Component → List Component
 trimmed cs = trimmed_end (trimmed_start cs)
-
--- The first cut of what stands from a place on ends at this other place, at a mark or at the end of the list.
-abbrev pub EndsCut : (Component → Bool) → List Component → ℕ → ℕ → Type 0
-EndsCut test cs from to =
-    MatchOption (slice_get cs to)
-    (cuts test (drop from cs) ≡ record { front = slice_range cs from to; mark = None } ∷ [])
-    (λ c. cuts test (drop from cs) ≡ record { front = slice_range cs from to; mark = Some c } ∷ cuts test (drop (to + 1) cs))

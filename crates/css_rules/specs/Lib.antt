@@ -4,10 +4,8 @@ pub mod Declarations
 pub mod Refusals
 pub mod Selectors
 pub mod Sheets
-pub mod Marks
 pub mod SelectorFaults
 pub mod BareSelectors
-pub mod SelectorSteps
 pub mod SelectorTexts
 pub mod ReadableSelectors
 pub mod SelectorAtoms
@@ -18,3 +16,4 @@ pub mod SheetTexts
 pub mod SheetAgain
 pub mod Printable
 pub mod Standing
+pub mod Private

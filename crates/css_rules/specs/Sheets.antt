@@ -106,11 +106,6 @@ rule_refusals cut =
 abbrev pub sheet_refusals : List Component → List Refusal
 sheet_refusals cs = flat_map rule_refusals (cuts is_braces cs)
 
--- the fault that names a refusal
-abbrev pub fault_of : Refusal → RuleFault
-fault_of (Syntax at) = faults.Syntax at
-fault_of (Unbuilt at) = faults.Unbuilt at
-
 -- a fault names this refusal, unless memory ran out
 abbrev pub IsNamed : RuleFault → Option Refusal → Type 0
 IsNamed (faults.Syntax at) refusal = refusal ≡ Some (Syntax at)

@@ -2,8 +2,8 @@
 
 ghost use Rattle.std.specs.Prelude.{◌≡◌, ◌≤◌, ◌+◌, ◌∷◌, [], length, drop, slice_get, slice_range, MatchOption};
 ghost use Rattle.std.specs.Option.{option_copied};
-ghost use Rattle.css_rules.specs.Cuts.{cuts, trimmed, trimmed_start, trimmed_end, EndsCut};
-ghost use Rattle.css_rules.specs.Marks.{is_mark};
+ghost use Rattle.css_rules.specs.Cuts.{cuts, trimmed, trimmed_start, trimmed_end};
+ghost use Rattle.css_rules.specs.Private.Marks.{EndsCut, is_mark};
 
 use crate::parts::{head_of, is_space, is_token};
 use css_tokens::{Component, Kind};

@@ -6,7 +6,7 @@ ghost use Rattle.std.specs.Char.{is_ascii_uppercase};
 ghost use Rattle.std.specs.Option.{option_map};
 ghost use Rattle.css_rules.specs.Components.{is_ident, is_colon, is_custom};
 ghost use Rattle.css_rules.specs.Cuts.{cuts};
-ghost use Rattle.css_rules.specs.Marks.{is_mark};
+ghost use Rattle.css_rules.specs.Private.Marks.{is_mark};
 ghost use Rattle.css_rules.specs.declared.cuts.Mark.TheVariants.{Bang};
 ghost use Rattle.css_rules.specs.Declarations.{property_name, after_colon, is_important, may_be_value, value_of, declared, declaration_of, begins_custom};
 

@@ -7,7 +7,8 @@ ghost use Rattle.css_rules.specs.Cuts.{trimmed};
 ghost use Rattle.css_rules.specs.Declarations.{declaration_of};
 ghost use Rattle.css_rules.specs.Refusals.{first_refusal, holds, is_unbuilt_property};
 ghost use Rattle.css_rules.specs.Selectors.{list_of, list_faults};
-ghost use Rattle.css_rules.specs.Sheets.{declarations_of, run_of, first_place, rule_of, rules_of, sheet_of, declaration_refusals, begins_rule, item_refusals, block_refusals, prelude_refusals, leftover_refusals, begins_at_rule, rule_refusals, sheet_refusals, fault_of, IsNamed, IsLeast};
+ghost use Rattle.css_rules.specs.Sheets.{declarations_of, run_of, first_place, rule_of, rules_of, sheet_of, declaration_refusals, begins_rule, item_refusals, block_refusals, prelude_refusals, leftover_refusals, begins_at_rule, rule_refusals, sheet_refusals, IsNamed, IsLeast};
+ghost use Rattle.css_rules.specs.Private.Faults.{fault_of};
 
 use crate::cuts::{Mark, end_of_cut, mark_at, trimmed};
 use crate::declaration::{begins_custom, is_custom, read_declaration};

@@ -14,7 +14,7 @@ use Rattle.css_tokens.specs.declared.machine.State.{State}
 use Rattle.css_tokens.specs.declared.machine.State.TheVariants as state
 use Rattle.css_tokens.specs.Characters.{place_of, class_of, has, white, is_class}
 use Rattle.css_tokens.specs.Kinds.{starts, begins}
-use Rattle.css_tokens.specs.Machine.{next, ended}
+use Rattle.css_tokens.specs.Private.Machine.{next, ended}
 use Rattle.css_tokens.specs.Piece.{Word}
 use Rattle.css_tokens.specs.Tokens.{ReadsTo, classes_of, is_url, quote_follows, as_front}
 use Rattle.css_tokens.specs.Again.{StaysFirst, is_stop, Alike, KeepsQuote, is_solid, word_from, marks}

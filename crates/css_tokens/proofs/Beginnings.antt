@@ -14,7 +14,7 @@ use Rattle.css_tokens.specs.declared.machine.State.{State}
 use Rattle.css_tokens.specs.declared.machine.State.TheVariants as state
 use Rattle.css_tokens.specs.Characters.{class_of, has, is_class, white}
 use Rattle.css_tokens.specs.Kinds.{begins, starts}
-use Rattle.css_tokens.specs.Machine.{next, ended}
+use Rattle.css_tokens.specs.Private.Machine.{next, ended}
 use Rattle.css_tokens.specs.Piece.{Word}
 use Rattle.css_tokens.specs.Tokens.{classes_of, quote_follows, is_url}
 use Rattle.css_tokens.specs.Trees.{is_text}

@@ -8,7 +8,7 @@ use Rattle.css_tokens.specs.declared.kind.Kind.{Kind}
 use Rattle.css_tokens.specs.Characters.{has, is_class, place_of, classes, in_text}
 use Rattle.css_tokens.specs.Patterns.{Pattern, Never, Empty, One, Many, Either, Then, Closed, fits, any_cut}
 use Rattle.css_tokens.specs.Kinds.{Row, begins, kind_of}
-use Rattle.css_tokens.specs.Machine.{is_set, is_pattern, holds, is_never, is_blank, either, followed, derive, derived}
+use Rattle.css_tokens.specs.Private.Machine.{is_set, is_pattern, holds, is_never, is_blank, either, followed, derive, derived}
 
 at_place : (c : Class) → get_or classes (place_of c) class.Control ≡ c
 at_place class.Blank = refl

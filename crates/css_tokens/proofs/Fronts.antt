@@ -9,7 +9,7 @@ use Rattle.css_tokens.specs.declared.machine.State.{State}
 use Rattle.css_tokens.specs.declared.machine.State.TheVariants as state
 use Rattle.css_tokens.specs.Characters.{class_of}
 use Rattle.css_tokens.specs.Kinds.{kind_of}
-use Rattle.css_tokens.specs.Machine.{rows, next, ended}
+use Rattle.css_tokens.specs.Private.Machine.{rows, next, ended}
 use Rattle.css_tokens.specs.Tokens.{longest, or_else, as_front, longer, classes_of}
 use Rattle.css_tokens.proofs.Derivatives.{kind_of-derived}
 use Rattle.css_tokens.proofs.MachineRows.{rows-next, ended-kind_of}

@@ -10,7 +10,7 @@ use Rattle.css_tokens.specs.declared.machine.State.{State}
 use Rattle.css_tokens.specs.declared.machine.State.TheVariants as state
 use Rattle.css_tokens.specs.Characters.{has, is_class}
 use Rattle.css_tokens.specs.Kinds.{starts}
-use Rattle.css_tokens.specs.Machine.{next, ended}
+use Rattle.css_tokens.specs.Private.Machine.{next, ended}
 use Rattle.css_tokens.specs.Tokens.{as_front}
 use Rattle.css_tokens.specs.Again.{stops, is_stop, is_solid}
 use Rattle.css_tokens.proofs.Derivatives.{is_class-eq}

@@ -12,7 +12,7 @@ use Rattle.css_tokens.specs.declared.machine.State.TheVariants as state
 use Rattle.css_tokens.specs.Characters.{classes}
 use Rattle.css_tokens.specs.Patterns.{Pattern}
 use Rattle.css_tokens.specs.Kinds.{Row, kind_of, place_of_kind}
-use Rattle.css_tokens.specs.Machine.{is_set, is_pattern, derived, rows, next, ended}
+use Rattle.css_tokens.specs.Private.Machine.{is_set, is_pattern, derived, rows, next, ended}
 use Rattle.css_tokens.proofs.Derivatives.{is_set-eq, is_pattern-eq}
 
 kinds : List Kind

@@ -10,7 +10,7 @@ use Rattle.css_tokens.specs.declared.machine.State.TheVariants as state
 use Rattle.css_tokens.specs.Again.{StaysFirst, word_from, begins_none, after_name, digit, digit_or_dot}
 use Rattle.css_tokens.specs.Characters.{class_of, has, is_class, name, name_start, white}
 use Rattle.css_tokens.specs.Kinds.{begins, starts, is_kind, kind_of, table}
-use Rattle.css_tokens.specs.Machine.{next, ended}
+use Rattle.css_tokens.specs.Private.Machine.{next, ended}
 use Rattle.css_tokens.specs.PlainNames.{is_plain, is_plain_start, is_plain_after_dash, is_plain_name}
 use Rattle.css_tokens.specs.Tokens.{classes_of, names, spells, is_url, quote_follows}
 use Rattle.css_tokens.specs.Tokens as tokens

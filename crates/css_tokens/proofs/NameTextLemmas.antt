@@ -11,7 +11,7 @@ use Rattle.std.specs.Str.{chars}
 use Rattle.css_tokens.specs.Trees.{is_text}
 use Rattle.css_tokens.specs.Appends.{AppendsFront}
 use Rattle.css_tokens.proofs.AppendLemmas.{IsAppending, appending_more, appending_end, appending_front, front_none}
-use Rattle.css_tokens.specs.NamePlaces.{is_early, place_after, text_from}
+use Rattle.css_tokens.specs.Private.NamePlaces.{is_early, place_after, text_from}
 
 digits_FEFF : digits 16 false 0xFEFF ≡ 102 ∷ 101 ∷ 102 ∷ 102 ∷ []
 unfolding digits

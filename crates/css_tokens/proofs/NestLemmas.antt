@@ -12,7 +12,7 @@ use Rattle.css_tokens.specs.declared.pairing.Opened.{Opened}
 use Rattle.css_tokens.specs.Piece.{Piece}
 use Rattle.css_tokens.specs.Trees.{closes, closing, closing_text, opens, pieces_of, pieces_all, pieces_of-Block, is_formed-Block, all_formed, is_formed}
 use Rattle.css_tokens.specs.Pairing.{closed_by}
-use Rattle.css_tokens.specs.Nests.{nest_pieces, nest_formed, nest_awaited, opened_closing, IsOneTooDeep, opened_pieces, opened_formed}
+use Rattle.css_tokens.specs.Private.Nests.{nest_pieces, nest_formed, nest_awaited, opened_closing, IsOneTooDeep, opened_pieces, opened_formed}
 
 is_close : (k : Kind) → closes k ≡ true → k ≡ Close
 is_close Close e = refl

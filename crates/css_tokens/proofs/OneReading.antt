@@ -11,7 +11,7 @@ use Rattle.css_tokens.specs.declared.machine.State.{State}
 use Rattle.css_tokens.specs.declared.machine.State.TheVariants as state
 use Rattle.css_tokens.specs.Characters.{class_of}
 use Rattle.css_tokens.specs.Kinds.{table, url_table}
-use Rattle.css_tokens.specs.Machine.{next, ended}
+use Rattle.css_tokens.specs.Private.Machine.{next, ended}
 use Rattle.css_tokens.specs.Piece.{Word, spelled}
 use Rattle.css_tokens.specs.Tokens.{First, ReadsTo, Reads, Stops, StopsAt, StopsReading, first_front, front_of, url_rule, word, longer, as_front, or_else, classes_of, is_refused, is_url, quote_follows, is_control}
 use Rattle.css_tokens.proofs.Derivatives.{is_class-eq}

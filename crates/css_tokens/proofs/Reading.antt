@@ -12,10 +12,11 @@ use Rattle.css_tokens.specs.declared.class.Class.{Class}
 use Rattle.css_tokens.specs.declared.kind.Kind.{Kind}
 use Rattle.css_tokens.specs.declared.machine.State.TheVariants as state
 use Rattle.css_tokens.specs.Kinds.{table, url_table}
-use Rattle.css_tokens.specs.Machine.{next}
+use Rattle.css_tokens.specs.Private.Machine.{next}
 use Rattle.css_tokens.specs.Piece.{Piece, Word, word_of, spelled}
-use Rattle.css_tokens.specs.Tokens.{First, Reads, ReadsTo, IsPlaced, first_front, front_of, url_rule, word, longer, or_else, classes_of, is_refused, is_plain, is_url, quote_follows, Begins, Stops, StopsAt, StopsReading, is_control}
-use Rattle.css_tokens.specs.Faults.{IsFault, IsReadingFault}
+use Rattle.css_tokens.specs.Tokens.{First, Reads, ReadsTo, IsPlaced, first_front, front_of, url_rule, word, longer, or_else, classes_of, is_refused, is_plain, is_url, quote_follows, Stops, StopsAt, StopsReading, is_control}
+use Rattle.css_tokens.specs.Private.Reading.{Begins, IsReadingFault}
+use Rattle.css_tokens.specs.Faults.{IsFault}
 use Rattle.css_tokens.specs.declared.reader.TokenFault.{TokenFault}
 use Rattle.css_tokens.specs.declared.reader.TokenFault.TheVariants.{Syntax, Memory}
 use Rattle.css_tokens.proofs.Fronts.{longest_in, longest_in-nil, longest_in-step}

@@ -8,7 +8,7 @@ use Rattle.css_tokens.specs.declared.kind.Kind.{Kind}
 use Rattle.css_tokens.specs.declared.machine.State.{State}
 use Rattle.css_tokens.specs.declared.machine.State.TheVariants as state
 use Rattle.css_tokens.specs.Kinds.{kind_of, begins}
-use Rattle.css_tokens.specs.Machine.{next, ended, rows}
+use Rattle.css_tokens.specs.Private.Machine.{next, ended, rows}
 use Rattle.css_tokens.specs.Tokens.{longer, as_front, or_else}
 use Rattle.css_tokens.proofs.Derivatives.{kind_of-derived}
 use Rattle.css_tokens.proofs.MachineRows.{rows-next, ended-kind_of}

@@ -13,7 +13,7 @@ use Rattle.css_tokens.specs.declared.machine.State.TheVariants as state
 use Rattle.css_tokens.specs.Characters.{class_of}
 use Rattle.css_tokens.specs.Kinds.{kind_of, table, url_table, url_inside, is_kind}
 use Rattle.css_tokens.specs.Patterns.{fits}
-use Rattle.css_tokens.specs.Machine.{rows}
+use Rattle.css_tokens.specs.Private.Machine.{rows}
 use Rattle.css_tokens.specs.Piece.{Word}
 use Rattle.css_tokens.specs.Tokens.{First, first_front, front_of, url_rule, word, longer, classes_of, is_url, quote_follows, names, spells}
 use Rattle.css_tokens.proofs.Fronts.{longest_in}

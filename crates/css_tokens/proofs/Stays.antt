@@ -9,7 +9,7 @@ use Rattle.css_tokens.specs.declared.machine.State.{State}
 use Rattle.css_tokens.specs.declared.machine.State.TheVariants as state
 use Rattle.css_tokens.specs.Characters.{white, name}
 use Rattle.css_tokens.specs.Kinds.{begins, is_kind, table, kind_of}
-use Rattle.css_tokens.specs.Machine.{ended}
+use Rattle.css_tokens.specs.Private.Machine.{ended}
 use Rattle.css_tokens.specs.Tokens.{classes_of, is_url, quote_follows, spells, names}
 use Rattle.css_tokens.specs.Again.{StaysFirst, word_from, begins_none, after_ident}
 use Rattle.css_tokens.proofs.Fronts.{longest_in}

@@ -7,7 +7,7 @@ use Rattle.css_tokens.specs.declared.value.Pending.TheVariants.{Start, Nothing, 
 use Rattle.css_tokens.specs.declared.value.Pending.TheVariants as pending
 use Rattle.css_tokens.specs.Piece.{Word, spelled}
 use Rattle.css_tokens.specs.Values.{is_gap, before_run, single_gaps, after_gap, before_gap, word_kind, short_word, printed_words}
-use Rattle.css_tokens.specs.Pendings.{texts_after, pending_text, after_waiting_gap}
+use Rattle.css_tokens.specs.Private.Pendings.{texts_after, pending_text, after_waiting_gap}
 use Rattle.css_tokens.proofs.GapLemmas.{kind_cases, not_white, run_solid, run_before_solid, run-run, after_gap-run, before_gap-solid, after_gap-solid}
 
 abbrev pub space : Word

@@ -13,7 +13,7 @@ use Rattle.css_tokens.specs.declared.kind.Kind.{Kind}
 use Rattle.css_tokens.specs.declared.kind.Kind.TheVariants as kind
 use Rattle.css_tokens.specs.declared.machine.State.TheVariants as state
 use Rattle.css_tokens.specs.Characters.{class_of, has, white}
-use Rattle.css_tokens.specs.Machine.{ended}
+use Rattle.css_tokens.specs.Private.Machine.{ended}
 use Rattle.css_tokens.specs.Piece.{Piece, Word, word_of, spelled}
 use Rattle.css_tokens.specs.Tokens.{First, ReadsTo, classes_of, is_refused, is_url, quote_follows, spells}
 use Rattle.css_tokens.specs.Trees.{is_text, opens, closing, words_all, is_formed, is_formed-Single, is_formed-Block, all_formed}

@@ -11,7 +11,7 @@ use Rattle.css_tokens.specs.declared.component.Block.{Block}
 use Rattle.css_tokens.specs.Piece.{Word, word_of}
 use Rattle.css_tokens.specs.Trees.{pieces_of, pieces_all, words_all, pieces_of-Block, closing}
 use Rattle.css_tokens.specs.Appends.{AppendsFront}
-use Rattle.css_tokens.specs.Pendings.{Writes, texts_after, pending_after, pending_next, word_text, block_words}
+use Rattle.css_tokens.specs.Private.Pendings.{Writes, texts_after, pending_after, pending_next, word_text, block_words}
 use Rattle.css_tokens.proofs.AppendLemmas.{front_first, front_second}
 
 pub texts_after-append : (p : Pending) (ws vs : List Word) → texts_after p (ws ++ vs) ≡ texts_after p ws ++ texts_after (pending_after p ws) vs

@@ -2,14 +2,9 @@
 use Rattle.std.specs.Prelude.{ℕ, List}
 use Rattle.css_tokens.specs.declared.reader.TokenFault.{TokenFault}
 use Rattle.css_tokens.specs.declared.reader.TokenFault.TheVariants.{Syntax, Memory}
-use Rattle.css_tokens.specs.Tokens.{StopsAt, StopsReading}
+use Rattle.css_tokens.specs.Tokens.{StopsAt}
 
 -- a syntax fault names the place where the text has no reading; memory may run out at any time
 abbrev pub IsFault : List ℕ → TokenFault → Type 0
 IsFault text (Syntax o) = StopsAt text o
 IsFault text Memory = Unit {0}
-
--- the same of a text whose control characters are not looked at
-abbrev pub IsReadingFault : List ℕ → TokenFault → Type 0
-IsReadingFault text (Syntax o) = StopsReading text o
-IsReadingFault text Memory = Unit {0}

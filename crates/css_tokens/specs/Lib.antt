@@ -3,15 +3,11 @@ pub mod Characters
 pub mod Faults
 pub mod formers
 pub mod Kinds
-pub mod Machine
 pub mod Patterns
 pub mod Appends
-pub mod NamePlaces
 pub mod NameText
 pub mod Names
-pub mod Nests
 pub mod Pairing
-pub mod Pendings
 pub mod Piece
 pub mod PlainNames
 pub mod Refusals
@@ -21,3 +17,4 @@ pub mod Tokens
 pub mod Trees
 pub mod Values
 pub mod ValueAgain
+pub mod Private

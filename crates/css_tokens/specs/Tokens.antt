@@ -1,5 +1,5 @@
 -- The tokens of a text: what its first token is, what its tokens are, and where reading stops (CSS Syntax 3, sections 4.3.1 and 4.3.4).
-use Rattle.std.specs.Prelude.{ℕ, ◌+◌, ◌<◌, ◌≤◌, List, [], ◌∷◌, map, length, take, drop, ◌≡◌, ◌⊎◌, Bool, true, false, ◌&&◌, ◌||◌, not, Option, Some, None, MatchOption, codes, nat_eq, nat_lt, if◌then◌else◌}
+use Rattle.std.specs.Prelude.{ℕ, ◌+◌, List, [], ◌∷◌, map, length, take, drop, ◌≡◌, ◌⊎◌, Bool, true, false, ◌&&◌, ◌||◌, not, Option, Some, None, MatchOption, codes, nat_eq, nat_lt, if◌then◌else◌}
 use Rattle.std.specs.List.{list_all, position}
 use Rattle.std.specs.Option.{option_map, option_and_then}
 use Rattle.std.specs.Char.{to_ascii_lowercase}
@@ -11,7 +11,7 @@ use Rattle.css_tokens.specs.declared.class.Class.TheVariants as class
 use Rattle.css_tokens.specs.Characters.{class_of, has, is_class, white}
 use Rattle.css_tokens.specs.Kinds.{Row, table, url_table, url_inside, kind_of, is_kind}
 use Rattle.css_tokens.specs.Patterns.{fits}
-use Rattle.css_tokens.specs.Piece.{Piece, Word, word_of, spelled}
+use Rattle.css_tokens.specs.Piece.{Piece, Word, spelled}
 
 -- the classes of the characters of a text, one for each byte
 abbrev pub classes_of : List ℕ → List Class
@@ -119,13 +119,6 @@ StopsAt text o =
     MatchOption (position is_control text)
     (StopsReading text o)
     (λ place. o ≡ place)
-
--- the piece is the first token of the text, it is read, and it is not empty
-pub record Begins (text : List ℕ) (p : Piece) : Type 0 where
-  pub first : First text (word_of p)
-  pub read : is_refused p.kind ≡ false
-  pub whole : length p.text ≤ length text
-  pub some : 0 < length p.text
 
 -- is it ASCII, without `\`?
 abbrev pub is_plain : List ℕ → Bool

@@ -1,6 +1,6 @@
 ghost use Rattle.std.specs.Prelude.{◌≡◌, map};
 ghost use Rattle.css_tokens.specs.Characters.{class_of};
-ghost use Rattle.css_tokens.specs.Machine.{next, from_start, from_text, from_name, from_number, from_exponent, from_url, ended};
+ghost use Rattle.css_tokens.specs.Private.Machine.{next, from_start, from_text, from_name, from_number, from_exponent, from_url, ended};
 
 use crate::Kind;
 use crate::class::Class;

@@ -2,7 +2,7 @@ ghost use Rattle.std.specs.Prelude.{◌≡◌, ◌⊎◌, ◌≤◌, ℕ, [], �
 ghost use Rattle.css_tokens.specs.Pairing.{awaited_next, closed_by, IsPaired, IsMismatch, IsTooDeep, IsUnclosed, places_rise};
 ghost use Rattle.css_tokens.specs.Trees.{pieces_all, all_formed, opens, closes, closing_text};
 ghost use Rattle.css_tokens.specs.Refusals.{IsRefusal};
-ghost use Rattle.css_tokens.specs.Nests.{nest_pieces, nest_awaited, nest_formed, IsOneTooDeep};
+ghost use Rattle.css_tokens.specs.Private.Nests.{nest_pieces, nest_awaited, nest_formed, IsOneTooDeep};
 
 use crate::{Block, Component, Kind, List, OutOfMemory, Token};
 use std::alloc::{AllocFailed, Global};

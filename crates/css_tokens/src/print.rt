@@ -3,7 +3,7 @@ ghost use Rattle.std.specs.Fmt.{digit_glyph};
 ghost use Rattle.css_tokens.specs.Appends.{AppendsFront};
 ghost use Rattle.css_tokens.specs.NameText.{name_text, code_escape, char_text, first_text, needs_code, stands_for_itself};
 ghost use Rattle.css_tokens.specs.PlainNames.{is_plain_name};
-ghost use Rattle.css_tokens.specs.NamePlaces.{place_after, is_early};
+ghost use Rattle.css_tokens.specs.Private.NamePlaces.{place_after, is_early};
 
 use crate::plain::is_plain_name;
 use crate::{List, OutOfMemory};

@@ -3,10 +3,11 @@ ghost use Rattle.std.specs.List.{position};
 ghost use Rattle.std.specs.Option.{option_map};
 ghost use Rattle.css_tokens.specs.Characters.{class_of};
 ghost use Rattle.css_tokens.specs.Kinds.{kind_of};
-ghost use Rattle.css_tokens.specs.Machine.{rows};
-ghost use Rattle.css_tokens.specs.Faults.{IsFault, IsReadingFault};
+ghost use Rattle.css_tokens.specs.Private.Machine.{rows};
+ghost use Rattle.css_tokens.specs.Faults.{IsFault};
+ghost use Rattle.css_tokens.specs.Private.Reading.{IsReadingFault, Begins};
 ghost use Rattle.css_tokens.specs.Piece.{spelled, word_of};
-ghost use Rattle.css_tokens.specs.Tokens.{or_else, as_front, longest, classes_of, is_url, quote_follows, first_front, is_control, is_plain, is_refused, Begins, Reads, IsPlaced, Stops};
+ghost use Rattle.css_tokens.specs.Tokens.{or_else, as_front, longest, classes_of, is_url, quote_follows, first_front, is_control, is_plain, is_refused, Reads, IsPlaced, Stops};
 
 use crate::class::{Class, classify};
 use crate::machine::{State, kind_at, step};

@@ -5,7 +5,7 @@ ghost use Rattle.css_tokens.specs.Piece.{word_of};
 ghost use Rattle.css_tokens.specs.Trees.{pieces_of, words_all, all_formed};
 ghost use Rattle.css_tokens.specs.Values.{is_gap, value_words, value_text};
 ghost use Rattle.css_tokens.specs.ValueAgain.{again, value_again, is_solid};
-ghost use Rattle.css_tokens.specs.Pendings.{after_waiting_gap, pending_text, block_words, Writes};
+ghost use Rattle.css_tokens.specs.Private.Pendings.{after_waiting_gap, pending_text, block_words, Writes};
 
 use crate::pairing::closing_text;
 use crate::{Block, Component, Kind, List, OutOfMemory};

@@ -3,7 +3,7 @@ use Rattle.std.proofs.Common.{◌≡◌, ℕ, ◌+◌, ◌<◌, ◌≤◌, List,
 use Rattle.std.specs.Option.{option_map}
 use Rattle.css_outside.specs.Names.{Names}
 use Rattle.css_outside.specs.Reading.{first_bytes}
-use Rattle.csslower.specs.Loading.{IsLoaded}
+use Rattle.csslower.specs.Private.Loading.{IsLoaded}
 use Rattle.csslower.specs.declared.load.Load.{Load}
 use Rattle.csslower.specs.Answers.{IsLong}
 

@@ -2,7 +2,7 @@
 use Rattle.std.proofs.Common.{◌≡◌, ℕ, List, ◌++◌, Option, Some, None, arith, append_assoc, length-append, ◌∙◌, sym, ap}
 use Rattle.css_outside.specs.Names.{Names, Told, bytes_under}
 use Rattle.css_outside.specs.Putting.{Puts}
-use Rattle.csslower.specs.Writing.{PutsFront}
+use Rattle.csslower.specs.Private.Putting.{PutsFront}
 
 -- two steps, of which each was told
 pub told_then : (a b c : Option Names) (P Q R : Names → Names → Type 0) → Told a b P → Told b c Q → ((x y z : Names) → P x y → Q y z → R x z) → Told a c R

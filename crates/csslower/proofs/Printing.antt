@@ -13,7 +13,7 @@ use Rattle.css_rules.specs.declared.sheet.Style.{Style, fold-Style}
 use Rattle.css_rules.specs.BareSelectors.{BareSelector, bare_list}
 use Rattle.css_rules.specs.SelectorTexts.{list_text}
 use Rattle.css_rules.specs.SheetTexts.{ItemText, block_text, braced_text, declaration_text, ended_declarations, item_text, more_declarations, printed_item, printed_item-Plain, printed_item-Style, rule_text, style_text}
-use Rattle.csslower.specs.Writing.{holds_bytes}
+use Rattle.csslower.specs.Private.Putting.{holds_bytes}
 
 -- the text of an item that is alone in its block, and its text among others
 abbrev pub text_alone : Item → List ℕ

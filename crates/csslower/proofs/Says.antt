@@ -6,7 +6,8 @@ use Rattle.css_outside.specs.Names.{Names, Told}
 use Rattle.css_outside.specs.Putting.{message, Puts}
 use Rattle.csslower.specs.Lines.{unread_line}
 use Rattle.csslower.specs.Saying.{Says}
-use Rattle.csslower.specs.Writing.{standard, PutsFront}
+use Rattle.csslower.specs.Writing.{standard}
+use Rattle.csslower.specs.Private.Putting.{PutsFront}
 
 says_ok : (line : List ℕ) (failed : Type 0) (a b : Option Names) → Told a b (Puts message line) → Told a b (PutsFront message line) → Told a b (Says line failed)
 says_ok line failed None b all front = tt

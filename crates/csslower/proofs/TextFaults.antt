@@ -5,7 +5,8 @@ use Rattle.cascade_spec.specs.declared.finding.Code.{Code}
 use Rattle.cascade_spec.specs.declared.finding.Code.TheVariants.{Unbuilt}
 use Rattle.csslower.specs.declared.text_fault.TextFault.{TextFault}
 use Rattle.csslower.specs.declared.text_fault.TextFault.TheVariants.{Finding, Memory}
-use Rattle.csslower.specs.Findings.{is_unbuilt, HasReadingFinding, HasFinding, IsAccepted, IsReadable, IsReadingFault, IsTextFault}
+use Rattle.csslower.specs.Findings.{is_unbuilt, HasReadingFinding, HasFinding, IsAccepted, IsReadable}
+use Rattle.csslower.specs.Private.TextFaults.{IsReadingFault, IsTextFault}
 
 pub found_of : (bytes : List ℕ) (place : ℕ) → position is_unbuilt bytes ≡ Some place → HasFinding bytes Unbuilt place
 unfolding HasFinding

@@ -1,6 +1,6 @@
 -- What stands against a file's text. What comes first of these is named: a byte that waits for a later stage, where
 -- reading stops, a bracket that is not paired, what the sheet is refused for.
-use Rattle.std.specs.Prelude.{ℕ, ◌≡◌, ◌⊎◌, ◌≤◌, List, [], length, map, IsTrue, Bool, ◌&&◌, not, Some, None, MatchOption, nat_lt, nat_eq}
+use Rattle.std.specs.Prelude.{ℕ, ◌≡◌, ◌⊎◌, List, [], length, map, IsTrue, Bool, ◌&&◌, not, Some, None, MatchOption, nat_lt, nat_eq}
 use Rattle.std.specs.List.{position}
 use Rattle.css_tokens.specs.declared.component.Component.{Component}
 use Rattle.css_tokens.specs.declared.pairing.ComponentFault.TheVariants as fault
@@ -13,8 +13,6 @@ use Rattle.css_rules.specs.Refusals.{first_refusal}
 use Rattle.css_rules.specs.Sheets.{sheet_refusals}
 use Rattle.cascade_spec.specs.declared.finding.Code.{Code}
 use Rattle.cascade_spec.specs.declared.finding.Code.TheVariants.{Syntax, Depth, Missing, Unbuilt}
-use Rattle.csslower.specs.declared.text_fault.TextFault.{TextFault}
-use Rattle.csslower.specs.declared.text_fault.TextFault.TheVariants.{Finding, Memory}
 
 -- bytes that wait for a later stage: those from 80 hexadecimal on, and `\`
 abbrev pub is_unbuilt : ℕ → Bool
@@ -75,18 +73,3 @@ IsReadable bytes = (components : List Component) × HasComponents bytes componen
 -- nothing stands against the text
 unfoldable pub IsAccepted : List ℕ → Type 0
 IsAccepted bytes = (position is_unbuilt bytes ≡ None) × IsReadable bytes
-
--- a refusal names what stands against the text; want of memory says nothing of it
-abbrev pub IsTextFault : List ℕ → TextFault → Type 0
-IsTextFault bytes (Finding code offset) = HasFinding bytes code offset
-IsTextFault bytes Memory = Unit {0}
-
--- the same of a text without bytes that wait for a later stage
-abbrev pub IsReadingFault : List ℕ → TextFault → Type 0
-IsReadingFault bytes (Finding code offset) = HasReadingFinding bytes code offset
-IsReadingFault bytes Memory = Unit {0}
-
--- the place of a refusal is in the text or at its end
-abbrev pub IsWithin : List ℕ → TextFault → Type 0
-IsWithin bytes (Finding code offset) = offset ≤ length bytes
-IsWithin bytes Memory = Unit {0}

@@ -45,13 +45,3 @@ AsksFor words before now (Refused finding) = now ≡ before ++ words
 AsksFor words before now ReadFault = now ≡ before ++ words
 AsksFor words before now WriteFault = now ≡ before ++ words
 AsksFor words before now (Limit kind) = now ≡ before ++ words
-
--- this text is written whole, or from its front where that failed, or nothing is where memory was refused
-abbrev pub Writes : List ℕ → Option Names → Option Names → Status → Type 0
-Writes text before now Done = Told before now (WroteAll text)
-Writes text before now WriteFault = Told before now (WroteFront text)
-Writes text before now Memory = Told before now SameOutputs
-Writes text before now (Refused finding) = ⊥
-Writes text before now (Usage kind) = ⊥
-Writes text before now ReadFault = ⊥
-Writes text before now (Limit kind) = ⊥

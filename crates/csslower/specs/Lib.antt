@@ -5,4 +5,4 @@ pub mod Findings
 pub mod Answers
 pub mod Leaving
 pub mod Saying
-pub mod Loading
+pub mod Private

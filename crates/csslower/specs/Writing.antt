@@ -1,27 +1,11 @@
 -- What a text that is put to an output leaves.
-use Rattle.std.specs.Prelude.{◌≡◌, ◌≢◌, ℕ, ◌≤◌, List, [], ◌∷◌, ◌++◌, Bool, true, false, IsSome, length, codes}
+use Rattle.std.specs.Prelude.{◌≡◌, ◌≢◌, ℕ, ◌≤◌, List, ◌++◌, IsSome, length, codes}
 use Rattle.css_outside.specs.Names.{Names, bytes_under}
 use Rattle.css_outside.specs.Putting.{message, Puts}
 
 -- the name of standard output
 abbrev pub standard : List ℕ
 standard = codes "-"
-
--- does a text hold a byte?
-abbrev pub holds_bytes : List ℕ → Bool
-holds_bytes [] = false
-holds_bytes (byte ∷ bytes) = true
-
--- A text was put under a name up to this rest: all other names keep what they hold, and a name that is held stays so.
-pub record PutsBut (name text rest : List ℕ) (before now : Names) : Type 0 where
-  pub others : (other : List ℕ) → other ≢ name → now other ≡ before other
-  pub grown : bytes_under now name ++ rest ≡ bytes_under before name ++ text
-  pub within : length rest ≤ length text
-  pub stays : IsSome (before name) → IsSome (now name)
-
--- a part of the text was put from its front, perhaps nothing and perhaps all
-abbrev pub PutsFront : List ℕ → List ℕ → Names → Names → Type 0
-PutsFront name text before now = (rest : List ℕ) × PutsBut name text rest before now
 
 -- no name but that of standard error has changed
 abbrev pub SameOutputs : Names → Names → Type 0

@@ -1,8 +1,10 @@
 ghost use Rattle.std.specs.Prelude.{◌≡◌, ◌≤◌, Some, ℕ, List, Option, length};
 ghost use Rattle.css_outside.specs.Counts.{Rose};
 ghost use Rattle.css_outside.specs.Names.{Told};
-ghost use Rattle.csslower.specs.Answers.{LimitFits, RefusalFits, WritingFits, IsFirstOfFile, IsOfText, IsOfWriting};
-ghost use Rattle.csslower.specs.Leaving.{Leaves, WinnersFit, ReadyFits, Writes};
+ghost use Rattle.csslower.specs.Answers.{LimitFits, RefusalFits, WritingFits, IsFirstOfFile};
+ghost use Rattle.csslower.specs.Private.Stages.{IsOfText, IsOfWriting};
+ghost use Rattle.csslower.specs.Leaving.{Leaves, WinnersFit, ReadyFits};
+ghost use Rattle.csslower.specs.Private.Putting.{Writes};
 ghost use Rattle.css_outside.specs.Putting.{IsReady};
 ghost use Rattle.csslower.specs.Lines.{memory_line};
 ghost use Rattle.csslower.specs.Saying.{Said, Says};

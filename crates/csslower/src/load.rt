@@ -1,7 +1,7 @@
 ghost use Rattle.std.specs.Prelude.{◌≡◌, ◌≤◌, ℕ, List, Option, IfSome, take};
 ghost use Rattle.std.specs.Option.{option_map};
 ghost use Rattle.css_outside.specs.Counts.{Rose};
-ghost use Rattle.csslower.specs.Loading.{IsLoaded, IsShort, IfFailed, IsOfRead, asked_after};
+ghost use Rattle.csslower.specs.Private.Loading.{IsLoaded, IsShort, IfFailed, IsOfRead, asked_after};
 
 use css_outside::{Files, FilesFault};
 use css_tokens::List;

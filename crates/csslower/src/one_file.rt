@@ -2,7 +2,8 @@ ghost use Rattle.std.specs.Prelude.{◌≡◌, ◌≤◌, ◌<◌, length, IsTru
 ghost use Rattle.std.specs.List.{position};
 ghost use Rattle.css_tokens.specs.Tokens.{is_plain};
 ghost use Rattle.cascade_spec.specs.Readings.{KeepsWinners};
-ghost use Rattle.csslower.specs.Findings.{IsAccepted, IsReadable, IsReadingFault, IsTextFault, IsWithin, is_unbuilt};
+ghost use Rattle.csslower.specs.Findings.{IsAccepted, IsReadable, is_unbuilt};
+ghost use Rattle.csslower.specs.Private.TextFaults.{IsReadingFault, IsTextFault, IsWithin};
 
 use crate::print::print;
 use crate::read_text::{text_components, text_sheet};

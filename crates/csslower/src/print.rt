@@ -3,7 +3,7 @@ ghost use Rattle.css_rules.specs.SheetTexts.{block_text, braced_text, declaratio
 ghost use Rattle.css_rules.specs.declared.sheet.Item.{Style as the_style};
 ghost use Rattle.css_tokens.specs.Appends.{AppendsFront};
 ghost use Rattle.css_tokens.specs.NameText.{name_text};
-ghost use Rattle.csslower.specs.Writing.{holds_bytes};
+ghost use Rattle.csslower.specs.Private.Putting.{holds_bytes};
 ghost use Rattle.std.specs.Prelude.{◌≡◌, ◌++◌, List, flat_map, map, IfOk, OnErr, OnOk};
 
 use css_rules::selector::write_list;

@@ -2,7 +2,7 @@ ghost use Rattle.std.specs.Prelude.{◌≡◌, ◌≢◌, ◌≤◌, OnOk, OnErr
 ghost use Rattle.css_outside.specs.Counts.{Rose};
 ghost use Rattle.css_outside.specs.Names.{Told};
 ghost use Rattle.css_outside.specs.Putting.{message, IsReady, Puts};
-ghost use Rattle.csslower.specs.Writing.{PutsFront};
+ghost use Rattle.csslower.specs.Private.Putting.{PutsFront};
 
 use css_outside::{Outbox, PutFailed};
 

@@ -1,7 +1,8 @@
 ghost use Rattle.std.specs.Prelude.{◌≡◌, ◌≤◌, [], length, IsTrue, IfOk, IfErr};
 ghost use Rattle.css_tokens.specs.Tokens.{is_plain};
 ghost use Rattle.css_rules.specs.Sheets.{sheet_of, sheet_refusals};
-ghost use Rattle.csslower.specs.Findings.{HasTokens, HasComponents, IsReadingFault, IsWithin};
+ghost use Rattle.csslower.specs.Findings.{HasTokens, HasComponents};
+ghost use Rattle.csslower.specs.Private.TextFaults.{IsReadingFault, IsWithin};
 
 use crate::text_fault::TextFault;
 use cascade_spec::Code;

@@ -2,7 +2,8 @@ ghost use Rattle.std.specs.Prelude.{◌≡◌, ◌≤◌, ◌∷◌, [], Some, m
 ghost use Rattle.std.specs.Option.{option_map, unwrap_or};
 ghost use Rattle.css_outside.specs.Counts.{Rose};
 ghost use Rattle.css_outside.specs.Names.{Names, Told, bytes_under};
-ghost use Rattle.csslower.specs.Answers.{ForEntry, UsageFits, LimitFits, RefusalFits, WritingFits, IsFirstOfFile, IsOfCommand, First, HasFirst};
+ghost use Rattle.csslower.specs.Answers.{ForEntry, UsageFits, LimitFits, RefusalFits, WritingFits, IsFirstOfFile, First, HasFirst};
+ghost use Rattle.csslower.specs.Private.Stages.{IsOfCommand};
 ghost use Rattle.csslower.specs.Leaving.{Leaves, WinnersFit, ReadyFits, AsksFor};
 ghost use Rattle.csslower.specs.Saying.{Said};
 ghost use Rattle.csslower.specs.Words.{entry_of};

@@ -4,7 +4,8 @@ ghost use Rattle.css_outside.specs.Names.{Told};
 ghost use Rattle.css_outside.specs.Putting.{message, Puts};
 ghost use Rattle.csslower.specs.Lines.{unread_line};
 ghost use Rattle.csslower.specs.Saying.{Says};
-ghost use Rattle.csslower.specs.Writing.{PutsFront, SameOutputs};
+ghost use Rattle.csslower.specs.Writing.{SameOutputs};
+ghost use Rattle.csslower.specs.Private.Putting.{PutsFront};
 
 use crate::put_text::put_text;
 use css_outside::{Outbox, PutFailed};

@@ -1,4 +1,4 @@
-ghost use Rattle.css_rules.specs.SelectorSteps.{chained, concluded, faults_from, fresh, joined, linked, list_from, of_type, on_combinator, on_dot, on_name, on_part, on_type, on_white, pending_fault, pending_selector, pending_step, reading, step, with_simple};
+ghost use Rattle.css_rules.specs.Private.SelectorSteps.{chained, concluded, faults_from, fresh, joined, linked, list_from, of_type, on_combinator, on_dot, on_name, on_part, on_type, on_white, pending_fault, pending_selector, pending_step, reading, step, with_simple};
 ghost use Rattle.css_rules.specs.declared.selector.read.Phase.TheVariants.{Inside};
 ghost use Rattle.css_rules.specs.Selectors.{list_faults, list_of};
 ghost use Rattle.css_rules.specs.SelectorFaults.{FaultIs, IsFirstFault};

@@ -1,5 +1,5 @@
 use Rattle.std.proofs.Common.{sym, ◌∙◌, ap, arith}
-use Rattle.css_rules.specs.Marks.{is_mark}
+use Rattle.css_rules.specs.Private.Marks.{is_mark}
 use Rattle.css_rules.proofs.CutLemmas.{cuts-step, EndsCut-mark, EndsCut-end}
 use Rattle.css_rules.proofs.cuts.end_of_cut.Goals as goal
 

@@ -1,6 +1,6 @@
 use Rattle.std.proofs.Common.{◌≡◌, ◌≤◌, ◌-◌, length, drop, slice_range}
 use Rattle.css_rules.specs.Cuts.{cuts}
-use Rattle.css_rules.specs.Marks.{is_mark}
+use Rattle.css_rules.specs.Private.Marks.{is_mark}
 use Rattle.css_rules.proofs.CutLemmas.{prepended}
 use Rattle.css_rules.proofs.cuts.end_of_cut.Given as goal
 

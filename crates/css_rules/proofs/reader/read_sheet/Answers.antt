@@ -3,7 +3,8 @@ use Rattle.std.specs.List.{AllByRecursion, Contains}
 use Rattle.css_rules.specs.declared.refusal.Refusal.{Refusal}
 use Rattle.css_rules.specs.declared.refusal.Refusal.TheVariants.{Syntax, Unbuilt}
 use Rattle.css_rules.specs.Refusals.{first_refusal, place_of}
-use Rattle.css_rules.specs.Sheets.{sheet_refusals, fault_of, IsLeast, IsNamed}
+use Rattle.css_rules.specs.Sheets.{sheet_refusals, IsLeast, IsNamed}
+use Rattle.css_rules.specs.Private.Faults.{fault_of}
 use Rattle.css_rules.proofs.RefusalLemmas.{first_refusal-none}
 use Rattle.css_rules.proofs.reader.read_sheet.Goals as goal
 

@@ -1,7 +1,7 @@
 use Rattle.std.proofs.Common.{rules, arith, ◌≡◌, ◌<◌, List, length, inl, inr, subst, sym}
 use Rattle.css_tokens.specs.Piece.{Piece}
 use Rattle.css_tokens.specs.Pairing.{awaited_next, IsMismatch, IsTooDeep, IsUnclosed}
-use Rattle.css_tokens.specs.Nests.{nest_awaited}
+use Rattle.css_tokens.specs.Private.Nests.{nest_awaited}
 use Rattle.css_tokens.proofs.NestLemmas.{length-nest_awaited}
 use Rattle.css_tokens.proofs.PairingLemmas.{unclosed_at, mismatch_at, deep_at, matched_more, shallow_more, pieces_more}
 use Rattle.css_tokens.proofs.pairing.paired.Goals as goal

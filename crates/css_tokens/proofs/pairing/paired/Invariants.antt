@@ -1,6 +1,6 @@
 use Rattle.std.proofs.Common.{◌≡◌, ◌≤◌, Some, take, true, length}
 use Rattle.css_tokens.specs.Pairing.{awaited, IsShallow}
-use Rattle.css_tokens.specs.Nests.{nest_pieces, nest_awaited, nest_formed}
+use Rattle.css_tokens.specs.Private.Nests.{nest_pieces, nest_awaited, nest_formed}
 use Rattle.css_tokens.proofs.pairing.paired.Given as goal
 
 abbrev pub invariant-loop-token : goal.invariant-loop-token

@@ -1,7 +1,7 @@
 use Rattle.std.proofs.Common.{length, drop}
 use Rattle.std.specs.Str.{chars}
 use Rattle.css_tokens.specs.NameText.{chars_text}
-use Rattle.css_tokens.specs.NamePlaces.{text_from}
+use Rattle.css_tokens.specs.Private.NamePlaces.{text_from}
 use Rattle.css_tokens.proofs.AppendLemmas.{IsAppending}
 use Rattle.css_tokens.proofs.print.write_chars.Given as goal
 

@@ -4,7 +4,7 @@ use Rattle.css_tokens.specs.declared.component.Component as component
 use Rattle.css_tokens.specs.declared.component.Block.{Block}
 use Rattle.css_tokens.specs.Piece.{Word, word_of}
 use Rattle.css_tokens.specs.Trees.{pieces_of, words_all, closing}
-use Rattle.css_tokens.specs.Pendings.{Writes, block_words}
+use Rattle.css_tokens.specs.Private.Pendings.{Writes, block_words}
 use Rattle.css_tokens.proofs.WritingLemmas.{writes_then, writes_stopped, writes_take, writes_all_stopped, words_of-Block}
 use Rattle.css_tokens.proofs.value.+write_components.Goals as goal
 

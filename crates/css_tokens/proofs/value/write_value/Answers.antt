@@ -3,7 +3,7 @@ use Rattle.css_tokens.specs.declared.value.Pending.TheVariants.{Start}
 use Rattle.css_tokens.specs.Appends.{AppendsFront}
 use Rattle.css_tokens.specs.Trees.{words_all}
 use Rattle.css_tokens.specs.Values.{value_text}
-use Rattle.css_tokens.specs.Pendings.{Writes}
+use Rattle.css_tokens.specs.Private.Pendings.{Writes}
 use Rattle.css_tokens.proofs.ValueLemmas.{texts_after_start}
 use Rattle.css_tokens.proofs.WritingLemmas.{front_of}
 use Rattle.css_tokens.proofs.value.write_value.Goals as goal

@@ -6,7 +6,7 @@ use Rattle.css_rules.specs.SelectorTexts.{list_text}
 use Rattle.css_rules.specs.SheetTexts.{block_text, printed_item}
 use Rattle.css_rules.specs.declared.sheet.Item.{Item}
 use Rattle.css_rules.specs.declared.sheet.Style.{Style}
-use Rattle.csslower.specs.Writing.{holds_bytes}
+use Rattle.csslower.specs.Private.Putting.{holds_bytes}
 use Rattle.csslower.proofs.Fronts.{on_err, front_first, front_second, front_item}
 use Rattle.csslower.proofs.Printing.{held-block, rule-none, rule-some, text-block, text-style, text_among}
 use Rattle.csslower.proofs.print.+print.Goals as goal

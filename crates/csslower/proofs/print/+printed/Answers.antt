@@ -1,6 +1,6 @@
 use Rattle.std.proofs.Common.{◌∙◌, sym, ap}
 use Rattle.std.specs.Prelude.{flat_map}
-use Rattle.csslower.specs.Writing.{holds_bytes}
+use Rattle.csslower.specs.Private.Putting.{holds_bytes}
 use Rattle.csslower.proofs.Printing.{held-plain, held-style, text_among}
 use Rattle.csslower.proofs.print.+printed.Goals as goal
 

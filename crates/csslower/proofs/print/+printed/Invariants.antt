@@ -1,6 +1,6 @@
 use Rattle.std.proofs.Common.{◌≡◌, drop}
 use Rattle.std.specs.Prelude.{flat_map}
-use Rattle.csslower.specs.Writing.{holds_bytes}
+use Rattle.csslower.specs.Private.Putting.{holds_bytes}
 use Rattle.csslower.proofs.Printing.{text_among}
 use Rattle.csslower.proofs.print.+printed.Given as goal
 

@@ -1,7 +1,7 @@
 use Rattle.std.proofs.Common.{◌≡◌, ◌≢◌, ◌≤◌, length}
 use Rattle.css_outside.specs.Names.{Told}
 use Rattle.css_outside.specs.Putting.{message}
-use Rattle.csslower.specs.Writing.{PutsBut}
+use Rattle.csslower.specs.Private.Putting.{PutsBut}
 use Rattle.csslower.proofs.put_text.put_text.Given as goal
 
 abbrev pub invariant-loop-count : goal.invariant-loop-count

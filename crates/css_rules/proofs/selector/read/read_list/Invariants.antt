@@ -1,6 +1,6 @@
 use Rattle.std.proofs.Common.{◌≡◌, ◌++◌, drop}
 use Rattle.css_rules.specs.Selectors.{list_of, list_faults}
-use Rattle.css_rules.specs.SelectorSteps.{list_from, faults_from}
+use Rattle.css_rules.specs.Private.SelectorSteps.{list_from, faults_from}
 use Rattle.css_rules.proofs.selector.read.read_list.Given as goal
 
 abbrev pub invariant-loop-component : goal.invariant-loop-component
