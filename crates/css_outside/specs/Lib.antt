@@ -2,5 +2,6 @@ pub mod Names
 pub mod Counts
 pub mod Reading
 pub mod Putting
-pub mod Spaces
 pub mod Rooms
+pub mod Spaces
+pub mod Calls

@@ -1,9 +1,9 @@
--- Spaces in memory, and what is held in them.
-use Rattle.std.specs.Prelude.{ℕ, ◌-◌, Bool, List, Option, Some, None, if◌then◌else◌, find, string_bytes}
-use Rattle.std.specs.Option.{option_map_or}
+-- Spaces in memory, what is held in them, and how much more fits.
+use Rattle.std.specs.Prelude.{ℕ, Bool, List, Option, Some, None, if◌then◌else◌, find, string_bytes}
+use Rattle.std.specs.Option.{option_map, option_map_or}
 use Rattle.std.specs.Str.{bytes_eq}
 use Rattle.css_outside.specs.Names.{Names}
-use Rattle.std.specs.Vec.{vec_len, vec_capacity}
+use Rattle.css_outside.specs.Rooms.{Rooms}
 use Rattle.css_outside.specs.declared.memory.space.Space.{Space}
 
 -- the bytes of a space to which there was a put
@@ -18,10 +18,6 @@ is_named name space = bytes_eq (string_bytes space.name) name
 abbrev pub held_in : List Space → Names
 held_in spaces name = option_map_or held_of (find (is_named name) spaces) None
 
--- how many more bytes fit into a space
-abbrev pub room_of : Space → ℕ
-room_of space = vec_capacity space.bytes - (if space.begun then vec_len space.bytes else 0)
-
--- how many more bytes fit under each name; none where it has no space
-abbrev pub room_in : List Space → List ℕ → ℕ
-room_in spaces name = option_map_or room_of (find (is_named name) spaces) 0
+-- how many more bytes fit under each name that has a space
+abbrev pub room_in : List Space → Rooms
+room_in spaces name = option_map (λ space. space.room) (find (is_named name) spaces)

@@ -4,6 +4,7 @@ mod memory_files;
 mod memory_outbox;
 mod reserve;
 mod space;
+mod spaces;
 mod sure_files;
 #[cfg(test)]
 mod tests;

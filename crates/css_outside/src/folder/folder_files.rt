@@ -1,4 +1,4 @@
-ghost use Rattle.std.specs.Prelude.{◌≡◌, ◌≤◌, None};
+ghost use Rattle.std.specs.Prelude.{◌≡◌, ◌≤◌, None, IfOk, length};
 ghost use Rattle.css_outside.specs.Counts.{Rose};
 ghost use Rattle.css_outside.specs.Reading.{IfFailed};
 
@@ -26,6 +26,7 @@ impl<R: rt::Files> FolderFiles<R> {
 
     // What a read answers after an error. Only a refused growth has the kind `OutOfMemory` and no code of the system.
     pub(super) fn answer_to(&mut self, error: io::Error) -> Result<Option<List<u8>>, FilesFault>
+        ensures none { IfOk result (λ found. found ≡ None) }
         ensures count { self.old.faults ≤ self.new.faults }
         ensures cause { IfFailed result (Rose self.old.faults self.new.faults) }
     {
@@ -63,10 +64,14 @@ impl<R: rt::Files> Files for FolderFiles<R> {
 }
 
 // The first bytes of a file.
-fn read_first<R: rt::Files>(rt: &R, alloc: Global, path: &str, most: u32) -> io::Result<List<u8>> {
+fn read_first<R: rt::Files>(rt: &R, alloc: Global, path: &str, most: u32) -> io::Result<List<u8>>
+    ensures { IfOk result (λ bytes. length bytes ≤ most) }
+{
     let mut bytes = Vec::new(alloc);
     fs::open(rt, path)?
         .take(u64::from(most))
         .read_to_end(&mut bytes)?;
+    // No clause of `read_to_end` says that `take` bounds what it reads.
+    bytes.truncate(most as usize);
     Ok(List::from_vec(bytes))
 }

@@ -46,18 +46,25 @@ impl<'a> SureFiles<'a> {
 }
 
 impl<'a> Files for SureFiles<'a> {
+    ghost use Rattle.std.specs.Prelude.{◌≤◌, IfSome};
+    ghost use Rattle.css_outside.specs.Counts.{Rose};
+    ghost use Rattle.css_outside.specs.Reading.{ReadsFirst, HasAtMost, asked_after, IfFailed};
+
     ghost told = { λ all. Some (named all.files) };
 
     ghost asked = { λ all. all.asked };
 
     ghost faults = { λ _. 0 };
 
-    fn read(
-        &mut self,
-        alloc: Global,
-        path: &str,
-        most: u32,
-    ) -> Result<Option<List<u8>>, FilesFault> {
+    fn read(&mut self, alloc: Global, path: &str, most: u32) -> Result<Option<List<u8>>, FilesFault>
+        ensures told { ⟦<SureFiles<'a> as Files>⟧.told self.new ≡ ⟦<SureFiles<'a> as Files>⟧.told self.old }
+        ensures bytes { ReadsFirst (⟦<SureFiles<'a> as Files>⟧.told self.old) path.now most result }
+        ensures short { HasAtMost most result }
+        ensures asked { IfSome (⟦<SureFiles<'a> as Files>⟧.told self.old) (λ _. ⟦<SureFiles<'a> as Files>⟧.asked self.new ≡ asked_after (⟦<SureFiles<'a> as Files>⟧.asked self.old) path.now result) }
+        ensures count { ⟦<SureFiles<'a> as Files>⟧.faults self.old ≤ ⟦<SureFiles<'a> as Files>⟧.faults self.new }
+        ensures cause { IfFailed result (Rose (⟦<SureFiles<'a> as Files>⟧.faults self.old) (⟦<SureFiles<'a> as Files>⟧.faults self.new)) }
+        ensures sure { IfFailed result ⊥ }
+    {
         let answer = match find(&self.files, path) {
             None => None,
             Some(bytes) => Some(copy_first(alloc, bytes, most)?),

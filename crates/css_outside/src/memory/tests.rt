@@ -43,6 +43,28 @@ fn fails_the_reads_of_given_numbers(rt: HostRuntime) -> Result<(), Fail> {
 }
 
 #[test]
+fn fails_each_read_whose_number_is_given(rt: HostRuntime) -> Result<(), Fail> {
+    let alloc = rt.alloc();
+    let mut list = List::new(alloc);
+    list.push((Text::lent("a.css"), bytes(alloc, "abc")?))?;
+    let mut failing = List::new(alloc);
+    failing.push(3)?;
+    failing.push(1)?;
+    let mut files = MemoryFiles::new(alloc, list, failing);
+    for fails in [true, false, true, false] {
+        match files.read(alloc, "a.css", 4) {
+            Err(FilesFault::Failed) => assert!(rt; fails, "a read failed"),
+            Ok(Some(bytes)) => assert_eq!(rt;
+                (fails, bytes.as_slice()),
+                (false, b"abc".as_slice())
+            ),
+            _ => assert!(rt; false, "a.css is there"),
+        }
+    }
+    Ok(())
+}
+
+#[test]
 fn puts_within_the_space_of_a_name(rt: HostRuntime) -> Result<(), Fail> {
     let failing = List::from_vec(vec![in rt.alloc(); 3]?);
     let mut outbox = MemoryOutbox::new(rt.alloc(), 4, failing);
@@ -74,5 +96,28 @@ fn puts_within_the_space_of_a_name(rt: HostRuntime) -> Result<(), Fail> {
     assert_eq!(rt; outbox.held("-"), Some(b"abcdhi".as_slice()));
     assert_eq!(rt; outbox.held("!"), Some(b"".as_slice()));
     assert_eq!(rt; outbox.held("a.css"), None);
+    Ok(())
+}
+
+#[test]
+fn fills_the_space_of_a_name(rt: HostRuntime) -> Result<(), Fail> {
+    let mut outbox = MemoryOutbox::new(rt.alloc(), 9, List::new(rt.alloc()));
+    outbox.reserve("-", 3)?;
+    assert_eq!(rt;
+        put_ready(&mut outbox, "-", b"abcd"),
+        Err(PutFailed::Failed)
+    );
+    assert_eq!(rt; put_ready(&mut outbox, "-", b"abc"), Ok(3));
+    assert_eq!(rt; put_ready(&mut outbox, "-", b""), Ok(0));
+    assert_eq!(rt; put_ready(&mut outbox, "-", b"d"), Err(PutFailed::Failed));
+    outbox.reserve("-", 2)?;
+    assert_eq!(rt; put_ready(&mut outbox, "-", b"de"), Ok(2));
+    assert_eq!(rt; put_ready(&mut outbox, "-", b"f"), Err(PutFailed::Failed));
+    assert_eq!(rt; outbox.held("-"), Some(b"abcde".as_slice()));
+    assert_eq!(rt;
+        put_ready(&mut outbox, "!", b""),
+        Err(PutFailed::Failed),
+        "no space"
+    );
     Ok(())
 }
