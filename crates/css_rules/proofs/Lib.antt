@@ -39,3 +39,4 @@ pub mod WithinRefusals
 pub mod FirstRefusals
 pub mod FirstFaults
 pub mod FlatTexts
+pub mod Computing

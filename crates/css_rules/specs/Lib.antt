@@ -17,3 +17,4 @@ pub mod SheetAgain
 pub mod Printable
 pub mod Standing
 pub mod Private
+pub mod Samples

@@ -9,6 +9,9 @@ ghost use Rattle.css_rules.specs.declared.refusal.Refusal.TheVariants.{Syntax, U
 ghost use Rattle.css_rules.specs.declared.selector.Combinator.TheVariants.{Descendant, Child, Next, Later};
 ghost use Rattle.css_tokens.specs.declared.kind.Kind.TheVariants.{Colon, Function, Ident, Open, Url};
 
+pub mod selectors;
+pub mod sheets;
+
 /// Which of several refusals is named: the one at the least place, and of two at one place what is not built yet.
 pub fn refusals_are_named()
     ensures none { first_refusal [] ≡ None }
