@@ -10,7 +10,7 @@ ghost use Rattle.css_rules.specs.Refusals.{first_refusal};
 ghost use Rattle.css_rules.specs.Runs.{bare_runs};
 ghost use Rattle.css_rules.specs.Sheets.{sheet_of, sheet_refusals};
 ghost use Rattle.css_rules.specs.SheetTexts.{sheet_text};
-ghost use Rattle.css_rules.specs.Samples.{source, laid, ident, hash, number, at_keyword, url, string, delim, dot, space, comment, comma, colon, semicolon, braces, brackets, call, class, untyped, typed, one, type_at, unmarked, marked, bare, run};
+ghost use Rattle.css_rules.specs.Samples.{source, laid, ident, number, at_keyword, url, string, delim, dot, space, comment, comma, colon, semicolon, braces, brackets, call, class, untyped, typed, one, type_at, unmarked, marked, bare, run};
 
 /// What a declaration says: its name in lower case, but for a custom property, and its value without white space at both ends.
 pub fn declarations_are_spelled()
@@ -64,25 +64,32 @@ pub fn sheets_print()
     ensures important { sheet_text (sheet_of (source (ident "a" ∷ braces (ident "b" ∷ colon ∷ ident "c" ∷ space ∷ delim "!" ∷ ident "Important" ∷ []) ∷ []))) ≡ codes "a{b:c!important}\n" }
 {}
 
-/// What a sheet is refused for outside its blocks.
+/// What a sheet is refused for outside its rules, and that a rule of what is built is not refused.
 pub fn rules_are_refused()
     ensures none { sheet_refusals (source (dot ∷ ident "a" ∷ braces (ident "color" ∷ colon ∷ ident "red" ∷ []) ∷ [])) ≡ [] }
+    ensures at_rule { sheet_refusals (source (at_keyword "@media" ∷ space ∷ ident "print" ∷ braces [] ∷ [])) ≡ Unbuilt 0 ∷ [] }
+    ensures at_rule_without_a_block { sheet_refusals (source (at_keyword "@import" ∷ space ∷ string "'x'" ∷ semicolon ∷ ident "p" ∷ braces [] ∷ [])) ≡ Unbuilt 0 ∷ [] }
+    ensures no_block { sheet_refusals (source (ident "p" ∷ braces [] ∷ space ∷ ident "q" ∷ [])) ≡ Syntax 4 ∷ [] }
+    ensures comment_behind { sheet_refusals (source (ident "p" ∷ braces [] ∷ space ∷ comment ∷ [])) ≡ [] }
+{}
+
+/// What a sheet is refused for in front of the block of a rule.
+pub fn preludes_are_refused()
     ensures pseudo_class { sheet_refusals (source (ident "a" ∷ colon ∷ ident "hover" ∷ braces (ident "color" ∷ colon ∷ ident "red" ∷ []) ∷ [])) ≡ Unbuilt 1 ∷ [] }
     ensures attribute { sheet_refusals (source (brackets (ident "x" ∷ []) ∷ braces [] ∷ [])) ≡ Unbuilt 0 ∷ [] }
     ensures colon_at_any_depth { sheet_refusals (source (call "a(" (ident "b" ∷ colon ∷ ident "c" ∷ []) ∷ braces [] ∷ [])) ≡ Unbuilt 3 ∷ [] }
     ensures colon_alone_is_named { sheet_refusals (source (ident "a" ∷ colon ∷ ident "b" ∷ comma ∷ comma ∷ delim "&" ∷ braces [] ∷ [])) ≡ Unbuilt 1 ∷ [] }
     ensures nesting { sheet_refusals (source (delim "&" ∷ ident "p" ∷ braces [] ∷ [])) ≡ Unbuilt 0 ∷ Syntax 0 ∷ [] }
     ensures nesting_is_named { first_refusal (sheet_refusals (source (delim "&" ∷ ident "p" ∷ braces [] ∷ []))) ≡ Some (Unbuilt 0) }
-    ensures no_selector_in_a_list { sheet_refusals (source (ident "a" ∷ comma ∷ comma ∷ ident "b" ∷ braces [] ∷ [])) ≡ Syntax 2 ∷ [] }
+    ensures first_of_two_that_are_no_selectors { sheet_refusals (source (ident "a" ∷ comma ∷ comma ∷ dot ∷ braces [] ∷ [])) ≡ Syntax 2 ∷ [] }
+    ensures nothing_before_the_block { sheet_refusals (source (ident "a" ∷ comma ∷ braces [] ∷ [])) ≡ Syntax 2 ∷ [] }
     ensures no_selector { sheet_refusals (source (braces [] ∷ [])) ≡ Syntax 0 ∷ [] }
-    ensures at_rule { sheet_refusals (source (at_keyword "@media" ∷ space ∷ ident "print" ∷ braces [] ∷ [])) ≡ Unbuilt 0 ∷ [] }
-    ensures no_block { sheet_refusals (source (ident "p" ∷ braces [] ∷ space ∷ ident "q" ∷ [])) ≡ Syntax 4 ∷ [] }
-    ensures comment_behind { sheet_refusals (source (ident "p" ∷ braces [] ∷ space ∷ comment ∷ [])) ≡ [] }
 {}
 
 /// What a sheet is refused for in the block of a rule.
 pub fn items_are_refused()
     ensures at_rule { sheet_refusals (source (ident "p" ∷ braces (at_keyword "@media" ∷ space ∷ ident "x" ∷ braces [] ∷ []) ∷ [])) ≡ Unbuilt 2 ∷ [] }
+    ensures at_rule_without_a_block { sheet_refusals (source (ident "p" ∷ braces (at_keyword "@layer" ∷ space ∷ ident "x" ∷ semicolon ∷ []) ∷ [])) ≡ Unbuilt 2 ∷ [] }
     ensures rule { sheet_refusals (source (ident "p" ∷ braces (ident "a" ∷ braces [] ∷ []) ∷ [])) ≡ Unbuilt 2 ∷ [] }
     ensures block_of_a_custom { sheet_refusals (source (ident "p" ∷ braces (ident "--x" ∷ colon ∷ braces [] ∷ []) ∷ [])) ≡ [] }
     ensures property { sheet_refusals (source (ident "p" ∷ braces (ident "margin-inline" ∷ colon ∷ number "0" ∷ []) ∷ [])) ≡ Unbuilt 2 ∷ [] }
