@@ -6,6 +6,7 @@ use Rattle.css_rules.specs.declared.selector.TypeName.TheVariants as types
 use Rattle.css_rules.specs.declared.selector.Simple.TheVariants.{Class, Id, Parent}
 use Rattle.css_rules.specs.BareSelectors.{BareCompound, BareSelector}
 use Rattle.css_rules.specs.Runs.{BareRun, BareDeclaration}
+use Rattle.css_rules.specs.Samples.{every, one}
 use Rattle.cascade_spec.specs.declared.document.Element.{Element}
 use Rattle.cascade_spec.specs.declared.document.Document.{Document}
 use Rattle.cascade_spec.specs.declared.environment.Environment.{Environment}
@@ -44,10 +45,6 @@ before n = record { element = n; tail = Some (codes "before") }
 
 -- Selectors.
 
--- the compound `*`
-abbrev pub every : BareCompound
-every = record { kind = types.Universal; simples = [] }
-
 -- a compound of a type name alone
 abbrev pub kind : String → BareCompound
 kind name = record { kind = types.Name (codes name); simples = [] }
@@ -67,14 +64,6 @@ parent = record { kind = types.None; simples = Parent ∷ [] }
 -- a compound with one more class
 abbrev pub also : BareCompound → String → BareCompound
 also k name = record { kind = k.kind; simples = Class (codes name) ∷ k.simples }
-
--- a selector of one compound
-abbrev pub one : BareCompound → BareSelector
-one k = record { lead = None; first = k; rest = [] }
-
--- a selector of two compounds and the combinator between them
-abbrev pub two : BareCompound → Combinator → BareCompound → BareSelector
-two first combinator second = record { lead = None; first = first; rest = (combinator, second) ∷ [] }
 
 -- a selector of three compounds and the combinators between them
 abbrev pub three : BareCompound → Combinator → BareCompound → Combinator → BareCompound → BareSelector

@@ -4,13 +4,14 @@
 ghost use Rattle.std.specs.Prelude.{◌≡◌, List, [], ◌∷◌, true, false, Some, None, codes};
 ghost use Rattle.std.specs.declared.cmp.Ordering.TheVariants.{Less, Equal, Greater};
 ghost use Rattle.css_rules.specs.declared.selector.Combinator.TheVariants.{Descendant, Child, Next, Later};
+ghost use Rattle.css_rules.specs.Samples.{every, one, two};
 ghost use Rattle.cascade_spec.specs.Lines.{line_of, column_of};
 ghost use Rattle.cascade_spec.specs.Specificities.{plus, specificity_cmp, greatest};
 ghost use Rattle.cascade_spec.specs.Matching.{top, within, selector_holds, selector_specificity};
 ghost use Rattle.cascade_spec.specs.Layers.{layer_cmp};
 ghost use Rattle.cascade_spec.specs.Entries.{is_active, value_set};
 ghost use Rattle.cascade_spec.specs.Cascade.{winning, winner};
-ghost use Rattle.cascade_spec.specs.Samples.{page, whole, before, every, kind, class, id, parent, also, one, two, three, led, inside, matched, specificity, layer, sublayer, unnamed, mentions, seen, normal, important, entry, rule, list_rule, nested_rule, browser, asked, given, layered, in_layer};
+ghost use Rattle.cascade_spec.specs.Samples.{page, whole, before, kind, class, id, parent, also, three, led, inside, matched, specificity, layer, sublayer, unnamed, mentions, seen, normal, important, entry, rule, list_rule, nested_rule, browser, asked, given, layered, in_layer};
 
 /// Lines and columns begin at 1, and only LF begins a line.
 pub fn lines_and_columns()
