@@ -1,2 +1,3 @@
+pub mod Computing
 pub mod KeepsLemmas
 pub mod WinnerLemmas

@@ -35,6 +35,17 @@ page = record {
       ∷ [];
 }
 
+-- the document `<main> <div> <div> <em></em> </div> </div> </main>`
+abbrev pub deep : Document
+deep = record {
+  elements =
+      element None "main" None []
+      ∷ element (Some 0) "div" None []
+      ∷ element (Some 1) "div" None []
+      ∷ element (Some 2) "em" None []
+      ∷ [];
+}
+
 -- an element itself, and none of its pseudo-elements
 abbrev pub whole : ℕ → Subject
 whole n = record { element = n; tail = None }
@@ -73,6 +84,10 @@ three first combinator second last third = record { lead = None; first = first; 
 abbrev pub led : Combinator → BareCompound → BareSelector
 led combinator k = record { lead = Some combinator; first = k; rest = [] }
 
+-- a selector of two compounds that begins with a combinator
+abbrev pub led_two : Combinator → BareCompound → Combinator → BareCompound → BareSelector
+led_two combinator first last second = record { lead = Some combinator; first = first; rest = (last, second) ∷ [] }
+
 -- the selector list `#b, .a`
 abbrev pub either : List BareSelector
 either = one (id "b") ∷ one (class "a") ∷ []
@@ -80,6 +95,10 @@ either = one (id "b") ∷ one (class "a") ∷ []
 -- what is round a rule in a rule `#b, .a`
 abbrev pub inside : Around
 inside = within page top either
+
+-- what is round a rule in a rule `&.red`, itself in a rule `#b, .a`
+abbrev pub inner : Around
+inner = within page inside (one (also parent "red") ∷ [])
 
 -- the elements of the page that a selector matches
 abbrev pub matched : Around → BareSelector → List ℕ
@@ -99,6 +118,10 @@ layer name = LayerName.Named (codes name) ∷ []
 abbrev pub sublayer : String → String → LayerPath
 sublayer name inner = LayerName.Named (codes name) ∷ LayerName.Named (codes inner) ∷ []
 
+-- a layer in a layer in a layer, the outermost name first
+abbrev pub innermost : String → String → String → LayerPath
+innermost name inner last = LayerName.Named (codes name) ∷ LayerName.Named (codes inner) ∷ LayerName.Named (codes last) ∷ []
+
 -- the anonymous layer of this number
 abbrev pub unnamed : ℕ → LayerPath
 unnamed number = LayerName.Anonymous number ∷ []
@@ -106,6 +129,11 @@ unnamed number = LayerName.Anonymous number ∷ []
 -- the layers that `@layer reset, base, base.theme` mentions
 abbrev pub mentions : List LayerPath
 mentions = layer "reset" ∷ layer "base" ∷ sublayer "base" "theme" ∷ []
+
+-- the layers that `@layer reset, base, base.theme, base.reset, base.theme.dark, base.theme.light, reset` mentions
+abbrev pub more_mentions : List LayerPath
+more_mentions =
+    layer "reset" ∷ layer "base" ∷ sublayer "base" "theme" ∷ sublayer "base" "reset" ∷ innermost "base" "theme" "dark" ∷ innermost "base" "theme" "light" ∷ layer "reset" ∷ []
 
 -- what a declaration in a layer shows
 abbrev pub seen : LayerPath → Specificity → String → Shown
@@ -157,7 +185,7 @@ row name value sets = record { name = codes name; value = codes value; sets = se
 abbrev pub sets : String → String → List ℕ × List ℕ
 sets name value = (codes name, codes value)
 
--- A browser that rejects `color: oops`, and in which `margin: 1px 2px` sets two longhands. Of `gap: 1px` it has two rows, and in the first a longhand twice.
+-- A browser that rejects `color: oops` and `width: bad`, and in which `margin: 1px 2px` sets two longhands. Of `gap: 1px` it has two rows, and in the first a longhand twice.
 abbrev pub browser : Environment
 browser = record {
   media = codes "screen";
@@ -166,7 +194,7 @@ browser = record {
   features = [];
   supports = [];
   unknown = [];
-  rejected = (codes "color", codes "oops") ∷ [];
+  rejected = (codes "color", codes "oops") ∷ (codes "width", codes "bad") ∷ [];
   shorthands =
       row "margin" "1px 2px" (sets "margin-top" "1px" ∷ sets "margin-left" "2px" ∷ [])
       ∷ row "gap" "1px" (sets "row-gap" "0px" ∷ sets "row-gap" "1px" ∷ [])

@@ -4,14 +4,16 @@
 ghost use Rattle.std.specs.Prelude.{◌≡◌, List, [], ◌∷◌, true, false, Some, None, codes};
 ghost use Rattle.std.specs.declared.cmp.Ordering.TheVariants.{Less, Equal, Greater};
 ghost use Rattle.css_rules.specs.declared.selector.Combinator.TheVariants.{Descendant, Child, Next, Later};
-ghost use Rattle.css_rules.specs.Samples.{every, one, two};
+ghost use Rattle.css_rules.specs.Samples.{every, one, two, source, ident, delim, dot, colon, semicolon, braces};
+ghost use Rattle.css_rules.specs.Sheets.{sheet_of};
 ghost use Rattle.cascade_spec.specs.Lines.{line_of, column_of};
 ghost use Rattle.cascade_spec.specs.Specificities.{plus, specificity_cmp, greatest};
 ghost use Rattle.cascade_spec.specs.Matching.{top, within, selector_holds, selector_specificity};
 ghost use Rattle.cascade_spec.specs.Layers.{layer_cmp};
 ghost use Rattle.cascade_spec.specs.Entries.{is_active, value_set};
+ghost use Rattle.cascade_spec.specs.Contents.{contents_of};
 ghost use Rattle.cascade_spec.specs.Cascade.{winning, winner};
-ghost use Rattle.cascade_spec.specs.Samples.{page, whole, before, kind, class, id, parent, also, three, led, inside, matched, specificity, layer, sublayer, unnamed, mentions, seen, normal, important, entry, rule, list_rule, nested_rule, browser, asked, given, layered, in_layer};
+ghost use Rattle.cascade_spec.specs.Samples.{page, deep, whole, before, kind, class, id, parent, also, three, led, led_two, inside, inner, matched, specificity, layer, sublayer, innermost, unnamed, mentions, more_mentions, seen, normal, important, entry, rule, list_rule, nested_rule, browser, asked, given, layered, in_layer};
 
 /// Lines and columns begin at 1, and only LF begins a line.
 pub fn lines_and_columns()
@@ -25,6 +27,11 @@ pub fn lines_and_columns()
     ensures column_of_the_end { column_of (codes "a\nbc") 4 ≡ 3 }
     ensures carriage_return { line_of (codes "a\r\nb") 3 ≡ 2 }
     ensures form_feed { line_of (12 ∷ 12 ∷ []) 2 ≡ 1 }
+    ensures column_behind_a_carriage_return { column_of (codes "a\r\nb") 2 ≡ 3 }
+    ensures column_behind_a_form_feed { column_of (12 ∷ 12 ∷ []) 2 ≡ 3 }
+    ensures third_line { line_of (codes "a\nbc\nd") 6 ≡ 3 }
+    ensures column_of_the_third_line { column_of (codes "a\nbc\nd") 6 ≡ 2 }
+    ensures column_in_bytes { column_of (195 ∷ 169 ∷ []) 2 ≡ 3 }
 {}
 
 /// Which elements of the page a selector at the top of a sheet matches (Selectors 4, sections 5, 6 and 15).
@@ -54,6 +61,27 @@ pub fn selectors_match()
     ensures no_parent_rule { matched top (one parent) ≡ [] }
 {}
 
+/// What names match, and which elements stand to others as a combinator says (Selectors 4, sections 5, 6 and 15).
+/// Names are compared as in a document whose language tells upper and lower case apart.
+pub fn names_and_places_match()
+    ensures type_in_another_case { matched top (one (kind "P")) ≡ [] }
+    ensures class_in_another_case { matched top (one (class "A")) ≡ [] }
+    ensures id_in_another_case { matched top (one (id "B")) ≡ [] }
+    ensures class_is_no_id { matched top (one (id "a")) ≡ [] }
+    ensures type_is_no_class { matched top (one (class "em")) ≡ [] }
+    ensures second_class { matched top (one (class "red")) ≡ 3 ∷ [] }
+    ensures later_not_of_itself { matched top (two (kind "p") Later (kind "p")) ≡ 3 ∷ [] }
+    ensures next_is_not_further { matched top (two (class "a") Next (class "a")) ≡ [] }
+    ensures later_is_further { matched top (two (class "a") Later (class "a")) ≡ 3 ∷ [] }
+    ensures later_without_parents { matched top (two (kind "main") Later (kind "aside")) ≡ 5 ∷ [] }
+    ensures no_child_of_a_sibling { matched top (two (kind "h1") Descendant (kind "em")) ≡ [] }
+    ensures child_of_a_child { matched top (three (kind "main") Child (kind "p") Child (kind "em")) ≡ 4 ∷ [] }
+    ensures of_a_great_grandparent { selector_holds deep top (two (kind "main") Descendant (kind "em")) (whole 3) ≡ true }
+    ensures of_the_outer_of_two { selector_holds deep top (three (kind "main") Child (kind "div") Descendant (kind "em")) (whole 3) ≡ true }
+    ensures of_the_inner_of_two { selector_holds deep top (three (kind "div") Child (kind "div") Descendant (kind "em")) (whole 3) ≡ true }
+    ensures only_of_the_outer { selector_holds deep top (three (kind "main") Child (kind "div") Child (kind "em")) (whole 3) ≡ false }
+{}
+
 /// Which elements a selector matches inside a rule `#b, .a` (CSS Nesting 1, section 3).
 pub fn nested_selectors_match()
     ensures parent_alone { matched inside (one parent) ≡ 1 ∷ 2 ∷ 3 ∷ [] }
@@ -65,6 +93,15 @@ pub fn nested_selectors_match()
     ensures next_of_the_parent { matched inside (led Next every) ≡ 2 ∷ 3 ∷ [] }
     ensures parent_twice { matched inside (two parent Next parent) ≡ 2 ∷ 3 ∷ [] }
     ensures parent_last { matched inside (two (kind "h1") Next parent) ≡ 2 ∷ [] }
+    ensures parent_first { matched inside (two parent Child (kind "em")) ≡ 4 ∷ [] }
+    ensures parent_behind_two { matched inside (three (kind "main") Child (kind "h1") Next parent) ≡ 2 ∷ [] }
+    ensures parent_is_implied_beside_another { matched inside (led_two Next (kind "h1") Next parent) ≡ [] }
+    ensures parent_before_and_behind { matched inside (led_two Next (kind "p") Next parent) ≡ 3 ∷ [] }
+    ensures no_pseudo_element { selector_holds page inside (one parent) (before 3) ≡ false }
+    ensures no_pseudo_element_of_a_descendant { selector_holds page inside (one (kind "em")) (before 4) ≡ false }
+    ensures parent_is_the_inner_rule { matched inner (one parent) ≡ 3 ∷ [] }
+    ensures descendant_of_the_inner_rule { matched inner (one (kind "em")) ≡ 4 ∷ [] }
+    ensures nothing_in_the_inner_rule { matched inner (led Child (kind "p")) ≡ [] }
 {}
 
 /// The specificities of selectors: examples of Selectors 4, section 17, and of selectors inside a rule `#b, .a`.
@@ -92,7 +129,24 @@ pub fn specificities()
     ensures counted_up_to_a_cap { plus (specificity 0 65535 1) (specificity 0 5 1) ≡ specificity 0 65536 2 }
 {}
 
-/// The order of the layers of `@layer reset, base, base.theme` (CSS Cascading 5, section 6.4).
+/// How specific lists and nested selectors are, and how great a specificity is (Selectors 4, section 17; CSS Nesting 1).
+pub fn specificities_of_lists()
+    ensures most_specific_is_last { (within page top (one (kind "p") ∷ one (class "a") ∷ [])).specific (whole 3) ≡ specificity 0 1 0 }
+    ensures most_specific_is_first { (within page top (one (class "a") ∷ one (kind "p") ∷ [])).specific (whole 3) ≡ specificity 0 1 0 }
+    ensures parent_by_its_last { selector_specificity (within page top (one (class "a") ∷ one (id "b") ∷ [])) (one parent) ≡ specificity 1 0 0 }
+    ensures parent_in_a_nested_rule { selector_specificity inner (one parent) ≡ specificity 1 1 0 }
+    ensures implied_in_a_nested_rule { selector_specificity inner (one (kind "em")) ≡ specificity 1 1 1 }
+    ensures nested_rule_by_the_most_of_its_parent { inner.specific (whole 3) ≡ specificity 1 1 0 }
+    ensures implied_before_a_combinator { selector_specificity inside (led Child (kind "em")) ≡ specificity 1 0 1 }
+    ensures implied_beside_another { selector_specificity inside (led_two Next (kind "h1") Next parent) ≡ specificity 2 0 1 }
+    ensures class_twice { selector_specificity top (one (also (class "a") "a")) ≡ specificity 0 2 0 }
+    ensures many_classes_are_no_id { specificity_cmp (specificity 1 0 0) (specificity 0 300 0) ≡ Greater }
+    ensures many_types_are_no_class { specificity_cmp (specificity 0 0 300) (specificity 0 1 0) ≡ Less }
+    ensures ids_up_to_a_cap { plus (specificity 65536 0 0) (specificity 1 1 1) ≡ specificity 65536 1 1 }
+    ensures types_up_to_a_cap { plus (specificity 0 0 65536) (specificity 0 0 65536) ≡ specificity 0 0 65536 }
+{}
+
+/// The order of the layers of `@layer reset, base, base.theme` and of a longer statement (CSS Cascading 5, section 6.4).
 pub fn layers_have_an_order()
     ensures earlier_is_lower { layer_cmp mentions (layer "reset") (layer "base") ≡ Less }
     ensures later_is_higher { layer_cmp mentions (layer "base") (layer "reset") ≡ Greater }
@@ -102,12 +156,23 @@ pub fn layers_have_an_order()
     ensures first_unnamed { layer_cmp (unnamed 0 ∷ layer "base" ∷ unnamed 1 ∷ []) (unnamed 0) (layer "base") ≡ Less }
     ensures second_unnamed { layer_cmp (unnamed 0 ∷ layer "base" ∷ unnamed 1 ∷ []) (unnamed 1) (layer "base") ≡ Greater }
     ensures itself { layer_cmp mentions (layer "base") (layer "base") ≡ Equal }
+    ensures unnamed_itself { layer_cmp (unnamed 0 ∷ unnamed 1 ∷ []) (unnamed 1) (unnamed 1) ≡ Equal }
+    ensures mentioned_again { layer_cmp more_mentions (layer "reset") (layer "base") ≡ Less }
+    ensures inner_layers { layer_cmp more_mentions (sublayer "base" "theme") (sublayer "base" "reset") ≡ Less }
+    ensures innermost_layers { layer_cmp more_mentions (innermost "base" "theme" "light") (innermost "base" "theme" "dark") ≡ Greater }
+    ensures innermost_is_lower { layer_cmp more_mentions (innermost "base" "theme" "dark") (sublayer "base" "theme") ≡ Less }
+    ensures inner_of_an_earlier_inner { layer_cmp more_mentions (innermost "base" "theme" "dark") (sublayer "base" "reset") ≡ Less }
+    ensures same_inner_name { layer_cmp (layer "a" ∷ layer "b" ∷ sublayer "b" "x" ∷ sublayer "a" "x" ∷ []) (sublayer "a" "x") (sublayer "b" "x") ≡ Less }
+    ensures name_in_another_case { layer_cmp (layer "Base" ∷ layer "base" ∷ []) (layer "base") (layer "Base") ≡ Greater }
 {}
 
 /// What declarations are active in the browser, and what they set.
 pub fn declarations_set()
     ensures active { is_active browser (entry (normal "color" "red")) ≡ true }
     ensures rejected { is_active browser (entry (normal "color" "oops")) ≡ false }
+    ensures second_rejected { is_active browser (entry (normal "width" "bad")) ≡ false }
+    ensures name_of_one_and_value_of_another { is_active browser (entry (normal "color" "bad")) ≡ true }
+    ensures important_and_rejected { is_active browser (entry (important "color" "oops")) ≡ false }
     ensures other_name { is_active browser (entry (normal "width" "oops")) ≡ true }
     ensures own_longhand { value_set browser (entry (normal "color" "red")) (codes "color") ≡ Some (codes "red") }
     ensures other_longhand { value_set browser (entry (normal "color" "red")) (codes "width") ≡ None }
@@ -118,6 +183,8 @@ pub fn declarations_set()
     ensures last_of_a_name { value_set browser (entry (normal "gap" "1px")) (codes "row-gap") ≡ Some (codes "1px") }
     ensures first_row { value_set browser (entry (normal "gap" "1px")) (codes "column-gap") ≡ None }
     ensures no_row { value_set browser (entry (normal "margin" "3px")) (codes "margin-top") ≡ None }
+    ensures value_of_a_row_alone { value_set browser (entry (normal "width" "1px")) (codes "width") ≡ Some (codes "1px") }
+    ensures important_shorthand { value_set browser (entry (important "margin" "1px 2px")) (codes "margin-left") ≡ Some (codes "2px") }
 {}
 
 /// Which declaration wins for the paragraph `.a.red` (CSS Cascading 5, section 6.1).
@@ -136,6 +203,12 @@ pub fn declarations_win()
     ensures longhand_of_a_shorthand { winner (asked false "margin-left") (given (rule every (normal "margin" "1px 2px" ∷ normal "margin-top" "3px" ∷ []) ∷ [])) ≡ Some (codes "2px") }
     ensures longhand_over_a_shorthand { winner (asked false "margin-top") (given (rule every (normal "margin" "1px 2px" ∷ normal "margin-top" "3px" ∷ []) ∷ [])) ≡ Some (codes "3px") }
     ensures shorthand_over_a_longhand { winner (asked false "margin-top") (given (rule every (normal "margin-top" "3px" ∷ normal "margin" "1px 2px" ∷ []) ∷ [])) ≡ Some (codes "1px") }
+    ensures other_longhand_later { winner (asked false "color") (given (rule every (normal "color" "red" ∷ normal "width" "1px" ∷ []) ∷ [])) ≡ Some (codes "red") }
+    ensures later_important { winner (asked true "color") (given (rule (class "a") (important "color" "red" ∷ []) ∷ rule (class "red") (important "color" "blue" ∷ []) ∷ [])) ≡ Some (codes "blue") }
+    ensures more_specific_important { winner (asked true "color") (given (rule (class "a") (important "color" "red" ∷ []) ∷ rule (kind "p") (important "color" "blue" ∷ []) ∷ [])) ≡ Some (codes "red") }
+    ensures rejected_important { winner (asked true "color") (given (rule every (important "color" "red" ∷ important "color" "oops" ∷ []) ∷ [])) ≡ Some (codes "red") }
+    ensures unmatched_later { winner (asked false "color") (given (rule (class "a") (normal "color" "red" ∷ []) ∷ rule (id "b") (normal "color" "blue" ∷ []) ∷ [])) ≡ Some (codes "red") }
+    ensures second_of_three { winner (asked false "color") (given (rule every (normal "color" "red" ∷ []) ∷ rule (class "a") (normal "color" "blue" ∷ []) ∷ rule (kind "p") (normal "color" "green" ∷ []) ∷ [])) ≡ Some (codes "blue") }
 {}
 
 /// Layers count before specificity, and among important declarations the other way round (CSS Cascading 5, section 6.4).
@@ -144,7 +217,22 @@ pub fn layers_win()
     ensures lower_important { winning true mentions (seen (layer "base") (specificity 0 0 1) "red" ∷ seen (layer "reset") (specificity 1 0 0) "blue" ∷ []) ≡ Some (seen (layer "reset") (specificity 1 0 0) "blue") }
     ensures without_a_layer { winning false mentions (seen [] (specificity 0 0 1) "red" ∷ seen (layer "base") (specificity 1 0 0) "blue" ∷ []) ≡ Some (seen [] (specificity 0 0 1) "red") }
     ensures later_of_a_tie { winning false mentions (seen (layer "base") (specificity 0 1 0) "red" ∷ seen (layer "base") (specificity 0 1 0) "blue" ∷ []) ≡ Some (seen (layer "base") (specificity 0 1 0) "blue") }
+    ensures later_of_a_tie_important { winning true mentions (seen (layer "base") (specificity 0 1 0) "red" ∷ seen (layer "base") (specificity 0 1 0) "blue" ∷ []) ≡ Some (seen (layer "base") (specificity 0 1 0) "blue") }
+    ensures more_specific_important { winning true mentions (seen (layer "base") (specificity 0 1 0) "red" ∷ seen (layer "base") (specificity 0 0 1) "blue" ∷ []) ≡ Some (seen (layer "base") (specificity 0 1 0) "red") }
+    ensures without_a_layer_important { winning true mentions (seen (layer "base") (specificity 0 0 1) "red" ∷ seen [] (specificity 1 0 0) "blue" ∷ []) ≡ Some (seen (layer "base") (specificity 0 0 1) "red") }
+    ensures outer { winning false mentions (seen (layer "base") (specificity 0 0 1) "red" ∷ seen (sublayer "base" "theme") (specificity 1 0 0) "blue" ∷ []) ≡ Some (seen (layer "base") (specificity 0 0 1) "red") }
+    ensures inner_important { winning true mentions (seen (sublayer "base" "theme") (specificity 0 0 1) "red" ∷ seen (layer "base") (specificity 1 0 0) "blue" ∷ []) ≡ Some (seen (sublayer "base" "theme") (specificity 0 0 1) "red") }
     ensures none { winning false mentions [] ≡ None }
     ensures by_the_order_of_mention { winner (asked false "color") (layered (layer "b" ∷ layer "a" ∷ []) (in_layer (layer "a") (normal "color" "red") ∷ in_layer (layer "b") (normal "color" "blue") ∷ [])) ≡ Some (codes "red") }
     ensures by_the_order_of_mention_important { winner (asked true "color") (layered (layer "b" ∷ layer "a" ∷ []) (in_layer (layer "a") (important "color" "red") ∷ in_layer (layer "b") (important "color" "blue") ∷ [])) ≡ Some (codes "blue") }
+{}
+
+/// Which declaration of a written sheet wins for the paragraph `.a.red`.
+pub fn sheets_win()
+    ensures later { winner (asked false "color") (contents_of (sheet_of (source (ident "p" ∷ braces (ident "color" ∷ colon ∷ ident "red" ∷ []) ∷ ident "p" ∷ braces (ident "color" ∷ colon ∷ ident "blue" ∷ []) ∷ [])))) ≡ Some (codes "blue") }
+    ensures later_in_a_rule { winner (asked false "color") (contents_of (sheet_of (source (ident "p" ∷ braces (ident "color" ∷ colon ∷ ident "red" ∷ semicolon ∷ ident "color" ∷ colon ∷ ident "blue" ∷ []) ∷ [])))) ≡ Some (codes "blue") }
+    ensures more_specific { winner (asked false "color") (contents_of (sheet_of (source (dot ∷ ident "a" ∷ braces (ident "color" ∷ colon ∷ ident "red" ∷ []) ∷ ident "p" ∷ braces (ident "color" ∷ colon ∷ ident "blue" ∷ []) ∷ [])))) ≡ Some (codes "red") }
+    ensures important { winner (asked true "color") (contents_of (sheet_of (source (ident "p" ∷ braces (ident "color" ∷ colon ∷ ident "red" ∷ delim "!" ∷ ident "important" ∷ []) ∷ [])))) ≡ Some (codes "red") }
+    ensures no_layer { (contents_of (sheet_of (source (ident "p" ∷ braces (ident "color" ∷ colon ∷ ident "red" ∷ []) ∷ [])))).mentions ≡ [] }
+    ensures nothing { winner (asked false "color") (contents_of (sheet_of [])) ≡ None }
 {}
