@@ -9,8 +9,11 @@ use Rattle.css_tokens.specs.Trees.{closing, pieces_all, pieces_of, pieces_of-Sin
 use Rattle.css_rules.specs.declared.selector.Selector.{Selector}
 use Rattle.css_rules.specs.declared.sheet.Item.{Item}
 use Rattle.css_rules.specs.declared.sheet.Item as item
-use Rattle.css_rules.specs.BareSelectors.{BareSelector, bare_list}
-use Rattle.css_rules.specs.Runs.{runs_within, runs_within-Plain, runs_within-Style}
+use Rattle.css_rules.specs.BareSelectors.{bare_list}
+use Rattle.css_tokens.specs.ValueAgain.{again-Single, head_kind-Single}
+use Rattle.css_rules.specs.Erased.{erased-Single}
+use Rattle.css_rules.specs.Contexts.{Context, under_list}
+use Rattle.css_rules.specs.Statements.{Statement, says, says-Plain, says-Style}
 
 -- a block, and its tokens
 pub block-out : (opening : Piece) (items : List Component) (close : ℕ)
@@ -21,10 +24,10 @@ pub block-pieces : (opening : Piece) (items : List Component) (close : ℕ)
     → pieces_of (component.Block (record { opening = opening; items = items; close = close })) ≡ opening ∷ pieces_all items ++ closing opening close ∷ []
 block-pieces opening items close = pieces_of-Block (record { opening = opening; items = items; close = close })
 
--- the runs of a style rule
-pub rule-runs : (selectors : List Selector) (items : List Item) (at : ℕ) (chain : List (List BareSelector))
-    → runs_within (item.Style (record { selectors = selectors; items = items; at = at })) chain ≡ flat_map (λ inner. runs_within inner (chain ++ bare_list selectors ∷ [])) items
-rule-runs selectors items at chain = runs_within-Style (record { selectors = selectors; items = items; at = at }) chain
+-- what a style rule says
+pub rule-says : (selectors : List Selector) (items : List Item) (at : ℕ) (c : Context)
+    → says (item.Style (record { selectors = selectors; items = items; at = at })) c ≡ flat_map (λ inner. says inner (under_list (bare_list selectors) c)) items
+rule-says selectors items at c = says-Style (record { selectors = selectors; items = items; at = at }) c
 
 -- the equations by which the worked examples of sheets compute
-pub ruleset computing = (outs-Single, block-out, pieces_of-Single, block-pieces, runs_within-Plain, rule-runs)
+pub ruleset computing = (outs-Single, block-out, pieces_of-Single, block-pieces, says-Plain, rule-says, again-Single, erased-Single, head_kind-Single)

@@ -18,10 +18,10 @@ use Rattle.css_rules.specs.Sheets.{sheet_of, sheet_refusals}
 use Rattle.css_rules.specs.SheetAgain.{sheet_again}
 use Rattle.css_rules.specs.SheetTexts.{runs_text, sheet_text}
 use Rattle.css_rules.specs.Standing.{AllStand}
-use Rattle.css_rules.specs.declared.sheet.Item.{Item}
 use Rattle.css_rules.specs.declared.sheet.Sheet.{Sheet}
-use Rattle.cascade_spec.specs.Contents.{contents_of, mentions_in}
-use Rattle.cascade_spec.specs.Cascade.{winner}
+use Rattle.css_rules.specs.Statements.{statements_of}
+use Rattle.css_rules.specs.RunStatements.{run_says}
+use Rattle.cascade_spec.specs.Contents.{winner}
 use Rattle.cascade_spec.specs.Readings.{ReadsAs, IsReadAgain, KeepsWinners}
 
 and_left : (a b : Bool) → (a && b) ≡ true → a ≡ true
@@ -70,6 +70,7 @@ words-spelled names first text (w ∷ ws) rest plain reads =
 
 -- what the lower crates ensure
 pub record SheetLaws : Type 0 where
+  pub said : (sheet : Sheet) → statements_of sheet ≡ flat_map run_says (bare_runs sheet)
   pub one : (t : List ℕ) (a b : List Word) → Reads t a → Reads t b → a ≡ b
   pub names : (n : List ℕ) → is_plain n ≡ true → spells kinds.Ident n ≡ true → is_plain_name n ≡ true
   pub first : (t : List ℕ) (w : Word) → First t w → spells w.kind w.text ≡ true
@@ -98,24 +99,17 @@ module _ (laws : SheetLaws) where
       (record {
         readable = (sheet_of (sheet_again runs), (sheet_again runs, again, refl));
         same = λ old new is_old is_new.
-            ap bare_runs is_new.2
+            laws.said new
+            ∙ ap (flat_map run_says)
+            (ap bare_runs is_new.2
             ∙ one-sheet (runs_text runs) is_new.0 (sheet_again runs) is_new.1 again ∙ laws.same runs printable ∙ one-sheet source cs is_old.0 read is_old.1
-            ∙ ap bare_runs (sym is_old.2);
+            ∙ ap bare_runs (sym is_old.2))
+            ∙ sym (laws.said old);
       })
-
-no_mentions : (items : List Item) → flat_map mentions_in items ≡ []
-no_mentions [] = refl
-no_mentions (item ∷ items) = no_mentions items
-
--- equal runs give the same to the cascade
-same_contents : (a b : Sheet) → bare_runs a ≡ bare_runs b → contents_of a ≡ contents_of b
-same_contents a b runs =
-    let mentions : flat_map mentions_in a.items ≡ flat_map mentions_in b.items = no_mentions a.items ∙ sym (no_mentions b.items) in
-    cc (runs, mentions)
 
 -- and so have equal winners
 pub again-keeps : (source written : List ℕ) → IsReadAgain source written → KeepsWinners source written
 again-keeps source written again = record {
   readable = again.readable;
-  same = λ old new is_old is_new q. ap (winner q) (same_contents new old (again.same old new is_old is_new));
+  same = λ old new is_old is_new q. record { winner = ap (winner q) (again.same old new is_old is_new) };
 }

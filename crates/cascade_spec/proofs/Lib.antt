@@ -1,3 +1,4 @@
 pub mod Computing
+pub mod KeptLemmas
 pub mod KeepsLemmas
 pub mod WinnerLemmas

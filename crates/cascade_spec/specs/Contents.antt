@@ -1,20 +1,17 @@
--- What a sheet gives to the cascade, in list order (CSS Cascading 5, sections 6.1 and 6.4).
-use Rattle.std.specs.Prelude.{List, [], flat_map}
-use Rattle.css_rules.specs.declared.sheet.Item.{Item}
-use Rattle.css_rules.specs.declared.sheet.Sheet.{Sheet}
-use Rattle.css_rules.specs.Runs.{bare_runs}
-use Rattle.cascade_spec.specs.Entries.{Entry, entries_of}
-use Rattle.cascade_spec.specs.Layers.{LayerPath}
+-- What wins under a sheet, and what it is for another sheet to keep that.
+use Rattle.std.specs.Prelude.{ℕ, List, Option, ◌≡◌}
+use Rattle.css_rules.specs.Statements.{Statement}
+use Rattle.cascade_spec.specs.Cascade.{Question}
+use Rattle.cascade_spec.specs.Showing.{showing, winner_among}
 
--- the entries of a sheet in order of position, and the layers that it mentions in the order in which it mentions them
-pub record Contents : Type 0 where
-  pub entries : List Entry
-  pub mentions : List LayerPath
+-- the winning value under these statements, where there is one
+abbrev pub winner : Question → List Statement → Option (List ℕ)
+winner q statements = winner_among q.important (showing q statements)
 
--- the layers that an item mentions: neither a style rule nor a declaration mentions one, and no other item is read yet
-abbrev pub mentions_in : Item → List LayerPath
-mentions_in item = []
+-- to this question the new statements answer as the old ones
+pub record IsKept (q : Question) (old new : List Statement) : Type 0 where
+  pub winner : winner q new ≡ winner q old
 
--- what a sheet gives to the cascade
-abbrev pub contents_of : Sheet → Contents
-contents_of sheet = record { entries = entries_of (bare_runs sheet); mentions = flat_map mentions_in sheet.items }
+-- to every question
+abbrev pub SameWinners : List Statement → List Statement → Type 0
+SameWinners old new = (q : Question) → IsKept q old new

@@ -1,28 +1,22 @@
 -- The entries of a sheet, and which of them are active (CSS Cascading 5, section 6).
-use Rattle.std.specs.Prelude.{ℕ, List, [], ◌∷◌, map, flat_map, Bool, ◌&&◌, not, Option, Some, None, if◌then◌else◌, find}
+use Rattle.std.specs.Prelude.{ℕ, List, [], ◌∷◌, Bool, ◌&&◌, not, Option, Some, None, if◌then◌else◌, find}
 use Rattle.std.specs.List.{list_any}
 use Rattle.css_tokens.specs.Trees.{is_text}
-use Rattle.css_rules.specs.BareSelectors.{BareSelector}
-use Rattle.css_rules.specs.Runs.{BareRun, BareDeclaration}
+use Rattle.css_tokens.specs.Values.{value_text}
+use Rattle.css_rules.specs.Runs.{BareDeclaration}
 use Rattle.cascade_spec.specs.declared.environment.Environment.{Environment}
 use Rattle.cascade_spec.specs.declared.environment.Shorthand.{Shorthand}
-use Rattle.cascade_spec.specs.Layers.{LayerPath}
+use Rattle.cascade_spec.specs.Worlds.{World}
 
--- a declaration with all that stands round it: its layer, and the selector lists of the enclosing style rules, outermost first
+-- a physical declaration
 pub record Entry : Type 0 where
-  pub layer : LayerPath
-  pub chain : List (List BareSelector)
   pub name : List ℕ
   pub value : List ℕ
   pub important : Bool
 
--- the entry of a declaration inside these selector lists, in no layer
-abbrev pub entry_of : List (List BareSelector) → BareDeclaration → Entry
-entry_of chain d = record { layer = []; chain = chain; name = d.name; value = d.value; important = d.important }
-
--- the entries of runs of declarations, in order of position
-abbrev pub entries_of : List BareRun → List Entry
-entries_of runs = flat_map (λ (run : BareRun). map (entry_of run.chain) run.declarations) runs
+-- the physical declarations of a declaration: itself, with the text of its value
+abbrev pub entries_of : World → BareDeclaration → List Entry
+entries_of world d = record { name = d.name; value = value_text d.value; important = d.important } ∷ []
 
 -- does the browser reject the declaration?
 abbrev pub is_rejected : Environment → Entry → Bool

@@ -1,9 +1,12 @@
 pub mod Lines
 pub mod Specificities
+pub mod Worlds
 pub mod Matching
 pub mod Layers
+pub mod Standings
 pub mod Entries
-pub mod Contents
 pub mod Cascade
+pub mod Showing
+pub mod Contents
 pub mod Readings
 pub mod Samples

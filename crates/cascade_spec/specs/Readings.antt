@@ -5,9 +5,8 @@ use Rattle.css_tokens.specs.Tokens.{Reads}
 use Rattle.css_tokens.specs.Trees.{words_all, all_formed}
 use Rattle.css_rules.specs.declared.sheet.Sheet.{Sheet}
 use Rattle.css_rules.specs.Sheets.{sheet_of, sheet_refusals}
-use Rattle.css_rules.specs.Runs.{bare_runs}
-use Rattle.cascade_spec.specs.Contents.{contents_of}
-use Rattle.cascade_spec.specs.Cascade.{Question, winner}
+use Rattle.css_rules.specs.Statements.{statements_of}
+use Rattle.cascade_spec.specs.Contents.{SameWinners}
 
 -- The text reads as these components, places aside: their words are its tokens, their brackets are paired to any depth, and nothing in them is refused.
 pub record ReadsAs (text : List ℕ) (components : List Component) : Type 0 where
@@ -22,9 +21,9 @@ HasSheet text sheet = (components : List Component) × ReadsAs text components �
 -- The one text reads as the sheet of the other, places, comments, the spelling of white space and empty rules aside, and it has a sheet.
 pub record IsReadAgain (source written : List ℕ) : Type 0 where
   pub readable : (sheet : Sheet) × HasSheet written sheet
-  pub same : (old new : Sheet) → HasSheet source old → HasSheet written new → bare_runs new ≡ bare_runs old
+  pub same : (old new : Sheet) → HasSheet source old → HasSheet written new → statements_of new ≡ statements_of old
 
 -- Under the sheet of the one text each winner is that under the sheet of the other, and it has one.
 pub record KeepsWinners (source written : List ℕ) : Type 0 where
   pub readable : (sheet : Sheet) × HasSheet written sheet
-  pub same : (old new : Sheet) → HasSheet source old → HasSheet written new → (q : Question) → winner q (contents_of new) ≡ winner q (contents_of old)
+  pub same : (old new : Sheet) → HasSheet source old → HasSheet written new → SameWinners (statements_of old) (statements_of new)

@@ -1,11 +1,16 @@
 -- A small document, and selectors, rules and questions over it, for the examples.
-use Rattle.std.specs.Prelude.{ℕ, List, [], ◌∷◌, Bool, true, false, Option, Some, None, codes, filter}
+use Rattle.std.specs.Prelude.{ℕ, List, [], ◌∷◌, ◌++◌, map, flat_map, Bool, true, false, Option, Some, None, codes, filter}
 use Prim.Native.String.{String}
 use Rattle.css_rules.specs.declared.selector.Combinator.{Combinator}
 use Rattle.css_rules.specs.declared.selector.TypeName.TheVariants as types
 use Rattle.css_rules.specs.declared.selector.Simple.TheVariants.{Class, Id, Parent}
 use Rattle.css_rules.specs.BareSelectors.{BareCompound, BareSelector}
-use Rattle.css_rules.specs.Runs.{BareRun, BareDeclaration}
+use Rattle.css_tokens.specs.declared.kind.Kind.TheVariants as kinds
+use Rattle.css_tokens.specs.declared.component.Component as component
+use Rattle.css_rules.specs.declared.sheet.LayerName.TheVariants as LayerName
+use Rattle.css_rules.specs.Contexts.{LayerPath, outside}
+use Rattle.css_rules.specs.Runs.{BareDeclaration}
+use Rattle.css_rules.specs.Statements.{Statement, Declares, Mentions}
 use Rattle.css_rules.specs.Samples.{every, one}
 use Rattle.cascade_spec.specs.declared.document.Element.{Element}
 use Rattle.cascade_spec.specs.declared.document.Document.{Document}
@@ -13,9 +18,8 @@ use Rattle.cascade_spec.specs.declared.environment.Environment.{Environment}
 use Rattle.cascade_spec.specs.declared.environment.Shorthand.{Shorthand}
 use Rattle.cascade_spec.specs.Specificities.{Specificity}
 use Rattle.cascade_spec.specs.Matching.{Subject, Around, top, within, selector_holds}
-use Rattle.cascade_spec.specs.Layers.{LayerName, LayerPath}
-use Rattle.cascade_spec.specs.Entries.{Entry, entry_of, entries_of}
-use Rattle.cascade_spec.specs.Contents.{Contents}
+use Rattle.cascade_spec.specs.Worlds.{World}
+use Rattle.cascade_spec.specs.Entries.{Entry}
 use Rattle.cascade_spec.specs.Cascade.{Question, Shown}
 
 -- an element of this parent, type name, id and classes
@@ -23,8 +27,8 @@ abbrev pub element : Option ℕ → String → Option (List ℕ) → List (List 
 element parent kind id classes = record { parent = parent; kind = codes kind; id = id; scoped_id = None; classes = classes; scoped_classes = []; holds = []; tails = [] }
 
 -- the document `<main> <h1 class="a"></h1> <p id="b"></p> <p class="a red"> <em></em> </p> </main> <aside></aside>`
-abbrev pub page : Document
-page = record {
+abbrev pub page_document : Document
+page_document = record {
   elements =
       element None "main" None []
       ∷ element (Some 0) "h1" None (codes "a" ∷ [])
@@ -36,8 +40,8 @@ page = record {
 }
 
 -- the document `<main> <div> <div> <em></em> </div> </div> </main>`
-abbrev pub deep : Document
-deep = record {
+abbrev pub deep_document : Document
+deep_document = record {
   elements =
       element None "main" None []
       ∷ element (Some 0) "div" None []
@@ -45,6 +49,38 @@ deep = record {
       ∷ element (Some 2) "em" None []
       ∷ [];
 }
+
+-- what a declaration of a shorthand sets
+abbrev pub row : String → String → List (List ℕ × List ℕ) → Shorthand
+row name value sets = record { name = codes name; value = codes value; sets = sets }
+
+-- a longhand, and the value that it is set to
+abbrev pub sets : String → String → List ℕ × List ℕ
+sets name value = (codes name, codes value)
+
+-- A browser that rejects `color: oops` and `width: bad`, and in which `margin: 1px 2px` sets two longhands. Of `gap: 1px` it has two rows, and in the first a longhand twice.
+abbrev pub browser : Environment
+browser = record {
+  media = codes "screen";
+  numbers = [];
+  values = [];
+  features = [];
+  supports = [];
+  unknown = [];
+  rejected = (codes "color", codes "oops") ∷ (codes "width", codes "bad") ∷ [];
+  shorthands =
+      row "margin" "1px 2px" (sets "margin-top" "1px" ∷ sets "margin-left" "2px" ∷ [])
+      ∷ row "gap" "1px" (sets "row-gap" "0px" ∷ sets "row-gap" "1px" ∷ [])
+      ∷ row "gap" "1px" (sets "row-gap" "9px" ∷ sets "column-gap" "9px" ∷ [])
+      ∷ [];
+}
+
+-- the documents in this browser
+abbrev pub page : World
+page = record { document = page_document; environment = browser }
+
+abbrev pub deep : World
+deep = record { document = deep_document; environment = browser }
 
 -- an element itself, and none of its pseudo-elements
 abbrev pub whole : ℕ → Subject
@@ -141,67 +177,52 @@ seen path specific value = record { layer = path; specific = specific; value = c
 
 -- Rules.
 
--- a declaration that is not important
+-- a physical declaration that is not important, and one that is
+abbrev pub entry : String → String → Entry
+entry name value = record { name = codes name; value = codes value; important = false }
+
+abbrev pub important_entry : String → String → Entry
+important_entry name value = record { name = codes name; value = codes value; important = true }
+
+-- a declaration whose value is one token of this text
+abbrev pub declared : Bool → String → String → BareDeclaration
+declared important name value = record { name = codes name; value = component.Single (record { kind = kinds.Ident; text = codes value; at = 0 }) ∷ []; important = important }
+
+-- a declaration that is not important, and one that is
 abbrev pub normal : String → String → BareDeclaration
-normal name value = record { name = codes name; value = codes value; important = false }
+normal name value = declared false name value
 
--- an important declaration
 abbrev pub important : String → String → BareDeclaration
-important name value = record { name = codes name; value = codes value; important = true }
+important name value = declared true name value
 
--- the entry of a declaration with no selector list round it
-abbrev pub entry : BareDeclaration → Entry
-entry d = entry_of [] d
+-- declarations inside these selector lists, in no layer
+abbrev pub inside_lists : List (List BareSelector) → List BareDeclaration → List Statement
+inside_lists chain declarations = map (Declares (record { layer = []; chain = chain })) declarations
 
 -- a rule whose selector is one compound
-abbrev pub rule : BareCompound → List BareDeclaration → BareRun
-rule k declarations = record { chain = (one k ∷ []) ∷ []; declarations = declarations }
+abbrev pub rule : BareCompound → List BareDeclaration → List Statement
+rule k declarations = inside_lists ((one k ∷ []) ∷ []) declarations
 
 -- a rule `#b, .a`
-abbrev pub list_rule : List BareDeclaration → BareRun
-list_rule declarations = record { chain = either ∷ []; declarations = declarations }
+abbrev pub list_rule : List BareDeclaration → List Statement
+list_rule declarations = inside_lists (either ∷ []) declarations
 
 -- a rule in a rule `#b, .a`
-abbrev pub nested_rule : BareCompound → List BareDeclaration → BareRun
-nested_rule k declarations = record { chain = either ∷ (one k ∷ []) ∷ []; declarations = declarations }
+abbrev pub nested_rule : BareCompound → List BareDeclaration → List Statement
+nested_rule k declarations = inside_lists (either ∷ (one k ∷ []) ∷ []) declarations
 
--- a sheet of these rules, which mentions no layer
-abbrev pub given : List BareRun → Contents
-given runs = record { entries = entries_of runs; mentions = [] }
+-- a sheet of these rules
+abbrev pub given : List (List Statement) → List Statement
+given rules = flat_map (λ rule. rule) rules
 
--- a sheet of these entries, which mentions these layers in their order
-abbrev pub layered : List LayerPath → List Entry → Contents
-layered order entries = record { entries = entries; mentions = order }
+-- a sheet that mentions these layers in their order, and then says this
+abbrev pub layered : List LayerPath → List Statement → List Statement
+layered order statements = map (Mentions outside) order ++ statements
 
 -- a declaration in a rule `*` in this layer
-abbrev pub in_layer : LayerPath → BareDeclaration → Entry
-in_layer path d = record { layer = path; chain = (one every ∷ []) ∷ []; name = d.name; value = d.value; important = d.important }
-
--- what a declaration of a shorthand sets
-abbrev pub row : String → String → List (List ℕ × List ℕ) → Shorthand
-row name value sets = record { name = codes name; value = codes value; sets = sets }
-
--- a longhand, and the value that it is set to
-abbrev pub sets : String → String → List ℕ × List ℕ
-sets name value = (codes name, codes value)
-
--- A browser that rejects `color: oops` and `width: bad`, and in which `margin: 1px 2px` sets two longhands. Of `gap: 1px` it has two rows, and in the first a longhand twice.
-abbrev pub browser : Environment
-browser = record {
-  media = codes "screen";
-  numbers = [];
-  values = [];
-  features = [];
-  supports = [];
-  unknown = [];
-  rejected = (codes "color", codes "oops") ∷ (codes "width", codes "bad") ∷ [];
-  shorthands =
-      row "margin" "1px 2px" (sets "margin-top" "1px" ∷ sets "margin-left" "2px" ∷ [])
-      ∷ row "gap" "1px" (sets "row-gap" "0px" ∷ sets "row-gap" "1px" ∷ [])
-      ∷ row "gap" "1px" (sets "row-gap" "9px" ∷ sets "column-gap" "9px" ∷ [])
-      ∷ [];
-}
+abbrev pub in_layer : LayerPath → BareDeclaration → Statement
+in_layer path d = Declares (record { layer = path; chain = (one every ∷ []) ∷ [] }) d
 
 -- what a longhand of the paragraph `.a.red` is, among declarations of the importance
 abbrev pub asked : Bool → String → Question
-asked important longhand = record { document = page; environment = browser; subject = whole 3; longhand = codes longhand; important = important }
+asked important longhand = record { world = page; subject = whole 3; longhand = codes longhand; important = important }

@@ -11,9 +11,11 @@ ghost use Rattle.cascade_spec.specs.Specificities.{plus, specificity_cmp, greate
 ghost use Rattle.cascade_spec.specs.Matching.{top, within, selector_holds, selector_specificity};
 ghost use Rattle.cascade_spec.specs.Layers.{layer_cmp};
 ghost use Rattle.cascade_spec.specs.Entries.{is_active, value_set};
-ghost use Rattle.cascade_spec.specs.Contents.{contents_of};
-ghost use Rattle.cascade_spec.specs.Cascade.{winning, winner};
-ghost use Rattle.cascade_spec.specs.Samples.{page, deep, whole, before, kind, class, id, parent, also, three, led, led_two, inside, inner, matched, specificity, layer, sublayer, innermost, unnamed, mentions, more_mentions, seen, normal, important, entry, rule, list_rule, nested_rule, browser, asked, given, layered, in_layer};
+ghost use Rattle.css_rules.specs.Statements.{statements_of};
+ghost use Rattle.cascade_spec.specs.Cascade.{winning};
+ghost use Rattle.cascade_spec.specs.Contents.{winner};
+ghost use Rattle.cascade_spec.specs.Showing.{showing};
+ghost use Rattle.cascade_spec.specs.Samples.{page, deep, whole, before, kind, class, id, parent, also, three, led, led_two, inside, inner, matched, specificity, layer, sublayer, innermost, unnamed, mentions, more_mentions, seen, normal, important, entry, important_entry, rule, list_rule, nested_rule, browser, asked, given, layered, in_layer};
 
 /// Lines and columns begin at 1, and only LF begins a line.
 pub fn lines_and_columns()
@@ -168,23 +170,23 @@ pub fn layers_have_an_order()
 
 /// What declarations are active in the browser, and what they set.
 pub fn declarations_set()
-    ensures active { is_active browser (entry (normal "color" "red")) ≡ true }
-    ensures rejected { is_active browser (entry (normal "color" "oops")) ≡ false }
-    ensures second_rejected { is_active browser (entry (normal "width" "bad")) ≡ false }
-    ensures name_of_one_and_value_of_another { is_active browser (entry (normal "color" "bad")) ≡ true }
-    ensures important_and_rejected { is_active browser (entry (important "color" "oops")) ≡ false }
-    ensures other_name { is_active browser (entry (normal "width" "oops")) ≡ true }
-    ensures own_longhand { value_set browser (entry (normal "color" "red")) (codes "color") ≡ Some (codes "red") }
-    ensures other_longhand { value_set browser (entry (normal "color" "red")) (codes "width") ≡ None }
-    ensures first_of_a_shorthand { value_set browser (entry (normal "margin" "1px 2px")) (codes "margin-top") ≡ Some (codes "1px") }
-    ensures second_of_a_shorthand { value_set browser (entry (normal "margin" "1px 2px")) (codes "margin-left") ≡ Some (codes "2px") }
-    ensures no_longhand_of_a_shorthand { value_set browser (entry (normal "margin" "1px 2px")) (codes "margin-right") ≡ None }
-    ensures shorthand_is_no_longhand { value_set browser (entry (normal "margin" "1px 2px")) (codes "margin") ≡ None }
-    ensures last_of_a_name { value_set browser (entry (normal "gap" "1px")) (codes "row-gap") ≡ Some (codes "1px") }
-    ensures first_row { value_set browser (entry (normal "gap" "1px")) (codes "column-gap") ≡ None }
-    ensures no_row { value_set browser (entry (normal "margin" "3px")) (codes "margin-top") ≡ None }
-    ensures value_of_a_row_alone { value_set browser (entry (normal "width" "1px")) (codes "width") ≡ Some (codes "1px") }
-    ensures important_shorthand { value_set browser (entry (important "margin" "1px 2px")) (codes "margin-left") ≡ Some (codes "2px") }
+    ensures active { is_active browser (entry "color" "red") ≡ true }
+    ensures rejected { is_active browser (entry "color" "oops") ≡ false }
+    ensures second_rejected { is_active browser (entry "width" "bad") ≡ false }
+    ensures name_of_one_and_value_of_another { is_active browser (entry "color" "bad") ≡ true }
+    ensures important_and_rejected { is_active browser (important_entry "color" "oops") ≡ false }
+    ensures other_name { is_active browser (entry "width" "oops") ≡ true }
+    ensures own_longhand { value_set browser (entry "color" "red") (codes "color") ≡ Some (codes "red") }
+    ensures other_longhand { value_set browser (entry "color" "red") (codes "width") ≡ None }
+    ensures first_of_a_shorthand { value_set browser (entry "margin" "1px 2px") (codes "margin-top") ≡ Some (codes "1px") }
+    ensures second_of_a_shorthand { value_set browser (entry "margin" "1px 2px") (codes "margin-left") ≡ Some (codes "2px") }
+    ensures no_longhand_of_a_shorthand { value_set browser (entry "margin" "1px 2px") (codes "margin-right") ≡ None }
+    ensures shorthand_is_no_longhand { value_set browser (entry "margin" "1px 2px") (codes "margin") ≡ None }
+    ensures last_of_a_name { value_set browser (entry "gap" "1px") (codes "row-gap") ≡ Some (codes "1px") }
+    ensures first_row { value_set browser (entry "gap" "1px") (codes "column-gap") ≡ None }
+    ensures no_row { value_set browser (entry "margin" "3px") (codes "margin-top") ≡ None }
+    ensures value_of_a_row_alone { value_set browser (entry "width" "1px") (codes "width") ≡ Some (codes "1px") }
+    ensures important_shorthand { value_set browser (important_entry "margin" "1px 2px") (codes "margin-left") ≡ Some (codes "2px") }
 {}
 
 /// Which declaration wins for the paragraph `.a.red` (CSS Cascading 5, section 6.1).
@@ -229,10 +231,10 @@ pub fn layers_win()
 
 /// Which declaration of a written sheet wins for the paragraph `.a.red`.
 pub fn sheets_win()
-    ensures later { winner (asked false "color") (contents_of (sheet_of (source (ident "p" ∷ braces (ident "color" ∷ colon ∷ ident "red" ∷ []) ∷ ident "p" ∷ braces (ident "color" ∷ colon ∷ ident "blue" ∷ []) ∷ [])))) ≡ Some (codes "blue") }
-    ensures later_in_a_rule { winner (asked false "color") (contents_of (sheet_of (source (ident "p" ∷ braces (ident "color" ∷ colon ∷ ident "red" ∷ semicolon ∷ ident "color" ∷ colon ∷ ident "blue" ∷ []) ∷ [])))) ≡ Some (codes "blue") }
-    ensures more_specific { winner (asked false "color") (contents_of (sheet_of (source (dot ∷ ident "a" ∷ braces (ident "color" ∷ colon ∷ ident "red" ∷ []) ∷ ident "p" ∷ braces (ident "color" ∷ colon ∷ ident "blue" ∷ []) ∷ [])))) ≡ Some (codes "red") }
-    ensures important { winner (asked true "color") (contents_of (sheet_of (source (ident "p" ∷ braces (ident "color" ∷ colon ∷ ident "red" ∷ delim "!" ∷ ident "important" ∷ []) ∷ [])))) ≡ Some (codes "red") }
-    ensures no_layer { (contents_of (sheet_of (source (ident "p" ∷ braces (ident "color" ∷ colon ∷ ident "red" ∷ []) ∷ [])))).mentions ≡ [] }
-    ensures nothing { winner (asked false "color") (contents_of (sheet_of [])) ≡ None }
+    ensures later { winner (asked false "color") (statements_of (sheet_of (source (ident "p" ∷ braces (ident "color" ∷ colon ∷ ident "red" ∷ []) ∷ ident "p" ∷ braces (ident "color" ∷ colon ∷ ident "blue" ∷ []) ∷ [])))) ≡ Some (codes "blue") }
+    ensures later_in_a_rule { winner (asked false "color") (statements_of (sheet_of (source (ident "p" ∷ braces (ident "color" ∷ colon ∷ ident "red" ∷ semicolon ∷ ident "color" ∷ colon ∷ ident "blue" ∷ []) ∷ [])))) ≡ Some (codes "blue") }
+    ensures more_specific { winner (asked false "color") (statements_of (sheet_of (source (dot ∷ ident "a" ∷ braces (ident "color" ∷ colon ∷ ident "red" ∷ []) ∷ ident "p" ∷ braces (ident "color" ∷ colon ∷ ident "blue" ∷ []) ∷ [])))) ≡ Some (codes "red") }
+    ensures important { winner (asked true "color") (statements_of (sheet_of (source (ident "p" ∷ braces (ident "color" ∷ colon ∷ ident "red" ∷ delim "!" ∷ ident "important" ∷ []) ∷ [])))) ≡ Some (codes "red") }
+    ensures no_layer { (showing (asked false "color") (statements_of (sheet_of (source (ident "p" ∷ braces (ident "color" ∷ colon ∷ ident "red" ∷ []) ∷ []))))).layers ≡ [] }
+    ensures nothing { winner (asked false "color") (statements_of (sheet_of [])) ≡ None }
 {}

@@ -6,11 +6,14 @@ use Rattle.css_tokens.specs.declared.component.Component.TheOpen.{Block}
 use Rattle.css_tokens.specs.declared.component.Component.TheVariants.{outs-Single, outs-Block}
 use Rattle.css_tokens.specs.Piece.{Piece}
 use Rattle.css_tokens.specs.Trees.{closing, pieces_all, pieces_of, pieces_of-Single, pieces_of-Block}
+use Rattle.css_tokens.specs.ValueAgain.{again-Single, head_kind-Single}
+use Rattle.css_rules.specs.Erased.{erased-Single}
+use Rattle.css_rules.specs.Contexts.{Context, under_list}
 use Rattle.css_rules.specs.declared.selector.Selector.{Selector}
 use Rattle.css_rules.specs.declared.sheet.Item.{Item}
 use Rattle.css_rules.specs.declared.sheet.Item as item
 use Rattle.css_rules.specs.declared.sheet.Item.TheOpen.{Style}
-use Rattle.css_rules.specs.BareSelectors.{BareSelector, bare_list}
+use Rattle.css_rules.specs.BareSelectors.{bare_list}
 use Rattle.css_rules.specs.SheetTexts.{block_text, item_text, printed_item, printed_item-Plain, printed_item-Style, rule_text}
 use Rattle.css_rules.specs.Runs.{runs_within, runs_within-Plain, runs_within-Style}
 
@@ -28,9 +31,9 @@ pub rule-printed : (selectors : List Selector) (items : List Item) (at : ℕ)
     → printed_item (item.Style (record { selectors = selectors; items = items; at = at })) ≡ item_text (Style (rule_text (bare_list selectors) (block_text (map printed_item items))))
 rule-printed selectors items at = printed_item-Style (record { selectors = selectors; items = items; at = at })
 
-pub rule-runs : (selectors : List Selector) (items : List Item) (at : ℕ) (chain : List (List BareSelector))
-    → runs_within (item.Style (record { selectors = selectors; items = items; at = at })) chain ≡ flat_map (λ inner. runs_within inner (chain ++ bare_list selectors ∷ [])) items
-rule-runs selectors items at chain = runs_within-Style (record { selectors = selectors; items = items; at = at }) chain
+pub rule-runs : (selectors : List Selector) (items : List Item) (at : ℕ) (c : Context)
+    → runs_within (item.Style (record { selectors = selectors; items = items; at = at })) c ≡ flat_map (λ inner. runs_within inner (under_list (bare_list selectors) c)) items
+rule-runs selectors items at c = runs_within-Style (record { selectors = selectors; items = items; at = at }) c
 
 -- the equations by which the worked examples compute
-pub ruleset computing = (outs-Single, block-out, pieces_of-Single, block-pieces, printed_item-Plain, rule-printed, runs_within-Plain, rule-runs)
+pub ruleset computing = (outs-Single, block-out, pieces_of-Single, block-pieces, printed_item-Plain, rule-printed, runs_within-Plain, rule-runs, again-Single, erased-Single, head_kind-Single)

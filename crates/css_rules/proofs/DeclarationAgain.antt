@@ -7,7 +7,7 @@ use Rattle.css_tokens.specs.declared.component.Component.{Component}
 use Rattle.css_tokens.specs.declared.component.Component.TheVariants.{outs-Single}
 use Rattle.css_tokens.specs.Piece.{Piece, Word}
 use Rattle.css_tokens.specs.NameText.{name_text}
-use Rattle.css_tokens.specs.Trees.{all_formed}
+use Rattle.css_tokens.specs.Trees.{all_formed, words_all}
 use Rattle.css_tokens.specs.ValueAgain.{value_again}
 use Rattle.css_rules.specs.declared.refusal.Refusal.TheVariants.{Unbuilt}
 use Rattle.css_rules.specs.declared.refusal.Sought.TheVariants.{RevertLayer, RevertLayerOrUrl}
@@ -25,6 +25,7 @@ use Rattle.css_rules.specs.SheetAgain.{colon, space, value_or_space, importance_
 use Rattle.css_rules.proofs.CutLemmas.{trimmed_start-gap, trimmed_start-other, trimmed_end-other, trimmed_end-gap}
 use Rattle.css_rules.proofs.CutAgain.{cuts-front, cuts-whole, any-append, trimmed_end-solid, any-trimmed_end}
 use Rattle.css_rules.proofs.Heads.{piece_of, head-Single, gap-Single, ident-Single, at-Single, colon-Single, semicolon-Single, bang-Single, braces-Single}
+use Rattle.css_rules.proofs.PlacesTrees.{same-erased}
 use Rattle.css_rules.proofs.ValueFacts.{ValueLaws, any-value, semicolon_layer, bang_layer, braces_layer, trimmed-value, trimmed_end-value, printed-some}
 use Rattle.css_rules.proofs.SoughtAgain.{unsought-again}
 
@@ -155,7 +156,12 @@ declaration-again laws d printable plain =
 
 -- which says what it was printed from
 pub bare-again : ValueLaws → (d : Declaration) → IsPrintableDeclaration d → bare_declaration (read_again d) ≡ bare_declaration d
-bare-again laws d printable = ap (λ text. record { name = d.name; value = text; important = d.important }) (laws.text d.value printable.formed)
+bare-again laws d printable =
+    let v = d.value in
+    let w = value_again v in
+    let formed = laws.formed v printable.formed in
+    let words : words_all (value_again w) ≡ words_all w = laws.words w formed ∙ laws.twice v printable.formed ∙ sym (laws.words v printable.formed) in
+    ap (λ value. record { name = d.name; value = value; important = d.important }) (same-erased laws.one (value_again w) w words (laws.formed w formed) formed)
 
 no_braces : ValueLaws → (d : Declaration) → IsPrintableDeclaration d → is_custom d.name ≡ false → list_any is_braces (name_of d.name ∷ colon ∷ tail_of d) ≡ false
 unfolding tail_of

@@ -3,6 +3,7 @@ use Rattle.std.proofs.Common.{◌≡◌, ℕ, List, [], ◌∷◌, ◌++◌, map
 use Rattle.std.proofs.lemmas.Grind.{flat_map-append}
 use Rattle.css_tokens.specs.declared.component.Component.{Component}
 use Rattle.css_tokens.specs.NameText.{name_text}
+use Rattle.css_rules.specs.Contexts.{outside, under_list}
 use Rattle.css_rules.specs.declared.sheet.Declaration.{Declaration}
 use Rattle.css_rules.specs.declared.sheet.Item.{Item, Style as the_style}
 use Rattle.css_rules.specs.declared.sheet.Style.{Style}
@@ -17,7 +18,7 @@ abbrev text_among : Item → List ℕ
 text_among item = (printed_item item).among
 
 abbrev runs_in : Item → List Run
-runs_in item = runs_within item []
+runs_in item = runs_within item outside
 
 -- a block that prints something
 rule-some : (list : List BareSelector) (name value more : List ℕ)
@@ -30,17 +31,17 @@ text-style : (s : Style) (ds : List Declaration) → s.items ≡ run_of ds → f
 text-style s [] none =
     ap (λ (t : ItemText). t.among ++ []) (printed_item-Style s)
     ∙ ap (λ (items : List Item). rule_text (bare_list s.selectors) (block_text (map printed_item items)) ++ []) none
-    ∙ sym (ap (λ (items : List Item). runs_text (flat_map (λ inner. runs_within inner (bare_list s.selectors ∷ [])) items ++ [])) none)
-    ∙ sym (ap (λ (runs : List Run). runs_text (runs ++ [])) (runs_within-Style s []))
+    ∙ sym (ap (λ (items : List Item). runs_text (flat_map (λ inner. runs_within inner (under_list (bare_list s.selectors) outside)) items ++ [])) none)
+    ∙ sym (ap (λ (runs : List Run). runs_text (runs ++ [])) (runs_within-Style s outside))
 text-style s (d ∷ ds) some =
     let list = bare_list s.selectors in
     ap (λ (t : ItemText). t.among ++ []) (printed_item-Style s)
     ∙ ap (λ (items : List Item). rule_text list (block_text (map printed_item items)) ++ []) some
     ∙ ap (λ (t : ItemText). rule_text list t.alone ++ []) (printed_item-Plain (d ∷ ds))
     ∙ ap (λ t. t ++ []) (rule-some list (name_text d.name) (printed_value d.value ++ importance_text d.important) (more_declarations ds))
-    ∙ sym (ap (λ (runs : List Run). runs_text ((runs ++ []) ++ [])) (runs_within-Plain (d ∷ ds) (list ∷ [])))
-    ∙ sym (ap (λ (items : List Item). runs_text (flat_map (λ inner. runs_within inner (list ∷ [])) items ++ [])) some)
-    ∙ sym (ap (λ (runs : List Run). runs_text (runs ++ [])) (runs_within-Style s []))
+    ∙ sym (ap (λ (runs : List Run). runs_text ((runs ++ []) ++ [])) (runs_within-Plain (d ∷ ds) (under_list list outside)))
+    ∙ sym (ap (λ (items : List Item). runs_text (flat_map (λ inner. runs_within inner (under_list list outside)) items ++ [])) some)
+    ∙ sym (ap (λ (runs : List Run). runs_text (runs ++ [])) (runs_within-Style s outside))
 
 text-rule : (prelude : List Component) (mark : Option Component) → flat_map text_among (rule_of prelude mark) ≡ runs_text (flat_map runs_in (rule_of prelude mark))
 text-rule prelude None = refl

@@ -1,27 +1,24 @@
 -- What a list of components without refusals is read as is printable.
-use Rattle.std.proofs.Common.{◌≡◌, ℕ, List, [], ◌∷◌, ◌++◌, true, false, refl, sym, ◌∙◌, ap, subst, Option, Some, None, flat_map, MatchOption}
+use Rattle.std.proofs.Common.{◌≡◌, ℕ, List, [], ◌∷◌, true, false, refl, sym, ◌∙◌, ap, subst, Option, Some, None, flat_map, MatchOption}
 use Rattle.std.specs.List.{list_all, list_any, AllByRecursion}
 use Rattle.std.proofs.lemmas.List.{append-nil}
 use Rattle.std.proofs.lemmas.List.Concat.{flat_map-append}
-use Rattle.std.proofs.lemmas.List.Folds.{flat_map-map}
 use Rattle.css_tokens.specs.declared.component.Component.{Component}
 use Rattle.css_tokens.specs.Trees.{all_formed, words_all}
+use Rattle.css_rules.specs.Contexts.{outside, under_list}
 use Rattle.css_rules.specs.declared.refusal.Refusal.{Refusal}
 use Rattle.css_rules.specs.declared.refusal.Sought.TheVariants.{ColonOrBracket, Ampersand}
 use Rattle.css_rules.specs.declared.sheet.Declaration.{Declaration}
 use Rattle.css_rules.specs.declared.sheet.Item.{Item}
 use Rattle.css_rules.specs.declared.sheet.Item as item
 use Rattle.css_rules.specs.declared.sheet.Style as style
-use Rattle.css_rules.specs.declared.sheet.Item.TheOpen.{Item-F}
-use Rattle.css_rules.specs.declared.sheet.Item.TheFolds.{fold-Item, fold_out-Item}
-use Rattle.css_rules.specs.declared.sheet.Item.TheVariants.{outs-Style, outs-Plain}
 use Rattle.css_rules.specs.BareSelectors.{BareSelector, bare_list}
 use Rattle.css_rules.specs.Components.{head, inside, is_braces}
 use Rattle.css_rules.specs.Cuts.{Cut, cuts, trimmed}
 use Rattle.css_rules.specs.Printable.{is_nesting, IsPrintable, IsPrintableDeclaration, ArePrintable}
 use Rattle.css_rules.specs.ReadableSelectors.{is_readable_list, is_spelled}
 use Rattle.css_rules.specs.Refusals.{sought_in}
-use Rattle.css_rules.specs.Runs.{Run, Contribution, item_runs, style_runs, runs_within, runs_of}
+use Rattle.css_rules.specs.Runs.{Run, runs_of, runs_within, runs_within-Plain, runs_within-Style}
 use Rattle.css_rules.specs.Selectors.{list_of, list_faults}
 use Rattle.css_rules.specs.Sheets.{declarations_of, run_of, first_place, rule_of, sheet_of, block_refusals, first_fault, prelude_refusals_by, prelude_refusals, begins_at_rule, rule_refusals_by, rule_refusals, sheet_refusals}
 use Rattle.css_rules.proofs.FromSourceDeclarations.{left-none, right-none, unrefused, each-append, block-printable}
@@ -31,33 +28,21 @@ use Rattle.css_rules.proofs.SelectorReadable.{readable-list}
 
 -- The runs of an item.
 
-abbrev layer_runs : Item-F Item style.Style → Contribution
-layer_runs v = item_runs (item.map-Item Item style.Style Contribution Contribution (fold-Item Contribution Contribution item_runs style_runs) (style.fold-Style Contribution Contribution item_runs style_runs) v)
-
-pub runs_within-Plain : (ds : List Declaration) (chain : List (List BareSelector)) → runs_within (item.Plain ds) chain ≡ record { chain = chain; declarations = ds } ∷ []
-runs_within-Plain ds chain = ap (λ (f : Contribution). f chain) (fold_out-Item Contribution Contribution item_runs style_runs (item.Plain ds) ∙ ap layer_runs (outs-Plain ds))
-
-pub runs_within-Style : (s : style.Style) (chain : List (List BareSelector))
-    → runs_within (item.Style s) chain ≡ flat_map (λ i. runs_within i (chain ++ bare_list s.selectors ∷ [])) s.items
-runs_within-Style s chain =
-    ap (λ (f : Contribution). f chain) (fold_out-Item Contribution Contribution item_runs style_runs (item.Style s) ∙ ap layer_runs (outs-Style s) ∙ style.fold_out-Style Contribution Contribution item_runs style_runs s)
-    ∙ flat_map-map (λ (runs : Contribution). runs (chain ++ bare_list s.selectors ∷ [])) runs_within s.items
-
 -- The run of a rule.
 
 abbrev at_top : Item → List Run
-at_top i = runs_within i []
+at_top i = runs_within i outside
 
 run-printable : (list : List BareSelector) (d : Declaration) (ds : List Declaration) → is_readable_list list ≡ true → list_any is_nesting list ≡ false
-    → AllByRecursion IsPrintableDeclaration (d ∷ ds) → IsPrintable (record { chain = list ∷ []; declarations = d ∷ ds })
+    → AllByRecursion IsPrintableDeclaration (d ∷ ds) → IsPrintable (record { context = under_list list outside; declarations = d ∷ ds })
 run-printable list d ds readable plain each = record { selectors = (list, refl, readable, plain); some = (d, ds, refl); each = each }
 
 items-printable : (list : List BareSelector) (ds : List Declaration) → is_readable_list list ≡ true → list_any is_nesting list ≡ false
-    → AllByRecursion IsPrintableDeclaration ds → ArePrintable (flat_map (λ i. runs_within i (list ∷ [])) (run_of ds))
+    → AllByRecursion IsPrintableDeclaration ds → ArePrintable (flat_map (λ i. runs_within i (under_list list outside)) (run_of ds))
 items-printable list [] readable plain each = tt
 items-printable list (d ∷ ds) readable plain each =
     subst (λ (runs : List Run). ArePrintable runs)
-    (sym (append-nil (runs_within (item.Plain (d ∷ ds)) (list ∷ [])) ∙ runs_within-Plain (d ∷ ds) (list ∷ [])))
+    (sym (append-nil (runs_within (item.Plain (d ∷ ds)) (under_list list outside)) ∙ runs_within-Plain (d ∷ ds) (under_list list outside)))
     (run-printable list d ds readable plain each, tt)
 
 style-printable : (s : style.Style) (ds : List Declaration) → s.items ≡ run_of ds → is_readable_list (bare_list s.selectors) ≡ true → list_any is_nesting (bare_list s.selectors) ≡ false
@@ -65,7 +50,7 @@ style-printable : (s : style.Style) (ds : List Declaration) → s.items ≡ run_
 style-printable s ds is readable plain each =
     let list = bare_list s.selectors in
     subst (λ (runs : List Run). ArePrintable runs)
-    (sym (append-nil (at_top (item.Style s)) ∙ runs_within-Style s [] ∙ ap (λ (items : List Item). flat_map (λ i. runs_within i (list ∷ [])) items) is))
+    (sym (append-nil (at_top (item.Style s)) ∙ runs_within-Style s outside ∙ ap (λ (items : List Item). flat_map (λ i. runs_within i (under_list list outside)) items) is))
     (items-printable list ds readable plain each)
 
 -- Preludes and rules without refusals.

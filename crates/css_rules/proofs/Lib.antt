@@ -40,3 +40,4 @@ pub mod FirstRefusals
 pub mod FirstFaults
 pub mod FlatTexts
 pub mod Computing
+pub mod SaidRuns

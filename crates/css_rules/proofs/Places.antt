@@ -4,6 +4,7 @@ use Rattle.std.proofs.lemmas.List.{map-append, append-nil}
 use Rattle.std.proofs.lemmas.Grind.{flat_map-append}
 use Rattle.css_tokens.specs.declared.component.Component.{Component}
 use Rattle.css_tokens.specs.Trees.{words_all, all_formed}
+use Rattle.css_rules.specs.Contexts.{outside, under_list}
 use Rattle.css_rules.specs.declared.sheet.Declaration.{Declaration}
 use Rattle.css_rules.specs.declared.sheet.Item.{Item}
 use Rattle.css_rules.specs.declared.sheet.Item as item
@@ -14,28 +15,29 @@ use Rattle.css_rules.specs.Cuts.{Cut, cuts, trimmed}
 use Rattle.css_rules.specs.Selectors.{list_of}
 use Rattle.css_rules.specs.Sheets.{declarations_of, run_of, first_place, rule_of, sheet_of}
 use Rattle.css_rules.specs.Runs.{Run, BareRun, BareDeclaration, bare_run, bare_runs, bare_declaration, runs_within, runs_within-Plain, runs_within-Style}
-use Rattle.css_rules.proofs.PlacesTrees.{erased, OnePairing, same-erased}
+use Rattle.css_rules.proofs.PlacesTrees.{OnePairing, same-erased}
+use Rattle.css_rules.specs.Erased.{erased}
 use Rattle.css_rules.proofs.PlacesLayers.{inside-erased, braces-erased}
 use Rattle.css_rules.proofs.PlacesSelectors.{list-erased}
 use Rattle.css_rules.proofs.PlacesCuts.{erased_cut, cuts-erased, declarations-erased, bares-erased}
 
 abbrev item_runs : Item → List Run
-item_runs item = runs_within item []
+item_runs item = runs_within item outside
 
 -- what a style rule says
 abbrev said : List BareSelector → List BareDeclaration → List BareRun
 said list [] = []
-said list (d ∷ ds) = record { chain = list ∷ []; declarations = d ∷ ds } ∷ []
+said list (d ∷ ds) = record { context = under_list list outside; declarations = d ∷ ds } ∷ []
 
-inner-runs : (list : List BareSelector) (ds : List Declaration) → map bare_run (flat_map (λ inner. runs_within inner (list ∷ [])) (run_of ds)) ≡ said list (map bare_declaration ds)
+inner-runs : (list : List BareSelector) (ds : List Declaration) → map bare_run (flat_map (λ inner. runs_within inner (under_list list outside)) (run_of ds)) ≡ said list (map bare_declaration ds)
 inner-runs list [] = refl
-inner-runs list (d ∷ ds) = ap (λ (rs : List Run). map bare_run (rs ++ [])) (runs_within-Plain (d ∷ ds) (list ∷ []))
+inner-runs list (d ∷ ds) = ap (λ (rs : List Run). map bare_run (rs ++ [])) (runs_within-Plain (d ∷ ds) (under_list list outside))
 
 rule-runs : (s : style.Style) (ds : List Declaration) → s.items ≡ run_of ds → map bare_run (flat_map item_runs (item.Style s ∷ [])) ≡ said (bare_list s.selectors) (map bare_declaration ds)
 rule-runs s ds is =
-    ap (map bare_run) (append-nil (runs_within (item.Style s) []))
-    ∙ ap (map bare_run) (runs_within-Style s [])
-    ∙ ap (λ (items : List Item). map bare_run (flat_map (λ inner. runs_within inner (bare_list s.selectors ∷ [])) items)) is
+    ap (map bare_run) (append-nil (runs_within (item.Style s) outside))
+    ∙ ap (map bare_run) (runs_within-Style s outside)
+    ∙ ap (λ (items : List Item). map bare_run (flat_map (λ inner. runs_within inner (under_list (bare_list s.selectors) outside)) items)) is
     ∙ inner-runs (bare_list s.selectors) ds
 
 -- what the rule of a cut says

@@ -11,7 +11,8 @@ use Rattle.css_rules.specs.Cuts.{Cut, cuts, with_front, trimmed, trimmed_start, 
 use Rattle.css_rules.specs.Declarations.{property_name, after_colon, may_be_value, is_important, value_of, declared, declared_after, declaration_of}
 use Rattle.css_rules.specs.Sheets.{declarations_of}
 use Rattle.css_rules.specs.Runs.{bare_declaration}
-use Rattle.css_rules.proofs.PlacesTrees.{placeless, erased, text-erased}
+use Rattle.css_rules.proofs.PlacesTrees.{bare_value-erased}
+use Rattle.css_rules.specs.Erased.{placeless, erased}
 use Rattle.css_rules.proofs.PlacesLayers.{head-erased, gap-erased, ident-erased, colon-erased, semicolon-erased, bang-erased, braces-erased}
 
 -- Lists.
@@ -174,7 +175,7 @@ pub declarations-erased : (block : List Component) → declarations_of (map eras
 declarations-erased block = ap (flat_map of_cut) (cuts-erased is_semicolon semicolon-erased block) ∙ of_cuts-erased (cuts is_semicolon block)
 
 bare-erased : (d : Declaration) → bare_declaration (erased_declaration d) ≡ bare_declaration d
-bare-erased d = ap (λ text. record { name = d.name; value = text; important = d.important }) (text-erased d.value)
+bare-erased d = ap (λ value. record { name = d.name; value = value; important = d.important }) (bare_value-erased d.value)
 
 -- they say the same
 pub bares-erased : (ds : List Declaration) → map bare_declaration (map erased_declaration ds) ≡ map bare_declaration ds

@@ -9,7 +9,7 @@ use Rattle.css_rules.specs.Components.{Layer, layer_head, layer_is_single, layer
 use Rattle.css_rules.specs.Signs.{sign_of, is_comma, open_sign, open_comma}
 use Rattle.css_rules.proofs.ValueFacts.{shape_of}
 use Rattle.css_rules.proofs.SelectorPlaces.{unplaced, sign-unplaced}
-use Rattle.css_rules.proofs.PlacesTrees.{placeless, erased, erased_block, erased-Single, erased-Block}
+use Rattle.css_rules.specs.Erased.{placeless, erased, erased_block, erased-Single, erased-Block}
 
 abbrev erased_layer : Layer → Layer
 erased_layer (Single p) = Single (placeless p)

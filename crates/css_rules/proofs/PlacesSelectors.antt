@@ -7,7 +7,7 @@ use Rattle.css_rules.specs.BareSelectors.{bare_list}
 use Rattle.css_rules.specs.Selectors.{cut_at_commas, members_of, list_of}
 use Rattle.css_rules.specs.Signs.{sign_of, is_comma}
 use Rattle.css_rules.proofs.SelectorPlaces.{unplaced, reading_of, both_signs, cut_at, both-at, list-read}
-use Rattle.css_rules.proofs.PlacesTrees.{erased}
+use Rattle.css_rules.specs.Erased.{erased}
 use Rattle.css_rules.proofs.PlacesLayers.{comma-erased, sign-erased}
 
 cut-erased : (cs : List Component) → both_signs (cut_at_commas (map erased cs)) ≡ both_signs (cut_at_commas cs)

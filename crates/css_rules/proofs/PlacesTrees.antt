@@ -1,16 +1,18 @@
 -- Components with each place at 0: what holds of a component from what holds of those in it, and its tokens.
-use Rattle.std.proofs.Common.{◌≡◌, List, [], ◌∷◌, ◌++◌, map, ◌&&◌, refl, sym, ◌∙◌, ap, subst, IsTrue}
+use Rattle.std.proofs.Common.{◌≡◌, List, [], ◌∷◌, ◌++◌, map, Bool, true, false, cond, ◌&&◌, refl, sym, ◌∙◌, ap, subst, IsTrue}
 use Rattle.std.proofs.lemmas.List.{map-append}
 use Rattle.css_tokens.specs.declared.component.Component.{Component, roll-Component, ind-Component}
 use Rattle.css_tokens.specs.declared.component.Component as component
 use Rattle.css_tokens.specs.declared.component.Block as block
-use Rattle.css_tokens.specs.declared.component.Component.TheOpen.{Component-F, Single, Block, Block-F}
-use Rattle.css_tokens.specs.declared.component.Component.TheFolds.{fold-Component, fold_out-Component}
-use Rattle.css_tokens.specs.declared.component.Component.TheVariants.{outs-Single, outs-Block, rolls-Single, rolls-Block}
+use Rattle.css_tokens.specs.declared.component.Component.TheOpen.{Component-F, Single, Block}
+use Rattle.css_tokens.specs.declared.component.Component.TheVariants.{rolls-Single, rolls-Block}
 use Rattle.css_tokens.specs.Piece.{Piece, word_of, spelled}
 use Rattle.css_tokens.specs.Trees.{opens, closing, pieces_of, pieces_all, words_all, is_formed, all_formed, pieces_of-Single, pieces_of-Block, is_formed-Single, is_formed-Block}
-use Rattle.css_tokens.specs.Values.{value_text, printed_words}
+use Rattle.css_tokens.specs.declared.kind.Kind.{Kind}
+use Rattle.css_tokens.specs.Values.{is_gap, is_white, before_run, single_gaps, after_gap, before_gap, value_text, printed_words}
+use Rattle.css_tokens.specs.ValueAgain.{head_kind, again, all_again, value_again, short_piece, head_kind-Single, head_kind-Block, again-Single, again-Block}
 use Rattle.css_rules.proofs.Heads.{piece_of}
+use Rattle.css_rules.specs.Erased.{placeless, bare_value, erased, erased_block, erased-Single, erased-Block}
 
 -- Induction.
 
@@ -49,34 +51,6 @@ by_components P single around c =
     (λ x y is. subst (λ z. P (roll-Component z)) is (component_step P Q single around y))
     (λ x y is. subst (λ z. Each P z.items) is (each_of P y.items))
     c
-
--- Components without places.
-
-abbrev pub placeless : Piece → Piece
-placeless p = piece_of (word_of p)
-
-abbrev component_erased : Component-F Component block.Block → Component
-component_erased (Single token) = component.Single (placeless token)
-component_erased (Block b) = component.Block b
-
-abbrev block_erased : Block-F Component block.Block → block.Block
-block_erased b = record { opening = placeless b.opening; items = b.items; close = 0 }
-
--- the component with each place at 0
-abbrev pub erased : Component → Component
-erased = fold-Component Component block.Block component_erased block_erased
-
-abbrev pub erased_block : block.Block → block.Block
-erased_block b = record { opening = placeless b.opening; items = map erased b.items; close = 0 }
-
-abbrev layer_erased : Component-F Component block.Block → Component
-layer_erased v = component_erased (component.map-Component Component block.Block Component block.Block (fold-Component Component block.Block component_erased block_erased) (block.fold-Block Component block.Block component_erased block_erased) v)
-
-pub erased-Single : (p : Piece) → erased (component.Single p) ≡ component.Single (placeless p)
-erased-Single p = fold_out-Component Component block.Block component_erased block_erased (component.Single p) ∙ ap layer_erased (outs-Single p)
-
-pub erased-Block : (b : block.Block) → erased (component.Block b) ≡ component.Block (erased_block b)
-erased-Block b = fold_out-Component Component block.Block component_erased block_erased (component.Block b) ∙ ap layer_erased (outs-Block b) ∙ ap component.Block (block.fold_out-Block Component block.Block component_erased block_erased b)
 
 -- Its tokens are the same but for their places.
 
@@ -148,3 +122,89 @@ same-erased one a b words formed_a formed_b =
     (pieces_all-erased a ∙ pieces-words (pieces_all a) ∙ ap (map piece_of) words ∙ sym (pieces-words (pieces_all b)) ∙ sym (pieces_all-erased b))
     (all_formed-erased a ∙ formed_a)
     (all_formed-erased b ∙ formed_b)
+
+-- White space and comments are the same but for places.
+
+module _ {X : Type 0} (kind : X → Kind) (f : X → X) (same : (x : X) → kind (f x) ≡ kind x) where
+  run-step : (x y : X) (ys : List X) (gaps white : Bool) → cond gaps (cond white (f x) (f y) ∷ map f ys) (f x ∷ f y ∷ map f ys) ≡ map f (cond gaps (cond white x y ∷ ys) (x ∷ y ∷ ys))
+  run-step x y ys true true = refl
+  run-step x y ys true false = refl
+  run-step x y ys false white = refl
+
+  run-map : (x : X) (ys : List X) → before_run kind (f x) (map f ys) ≡ map f (before_run kind x ys)
+  run-map x [] = refl
+  run-map x (y ∷ ys) =
+      ap (λ k. cond (is_gap k && is_gap (kind (f y))) (cond (is_white k) (f x) (f y) ∷ map f ys) (f x ∷ f y ∷ map f ys)) (same x)
+      ∙ ap (λ k. cond (is_gap (kind x) && is_gap k) (cond (is_white (kind x)) (f x) (f y) ∷ map f ys) (f x ∷ f y ∷ map f ys)) (same y)
+      ∙ run-step x y ys (is_gap (kind x) && is_gap (kind y)) (is_white (kind x))
+
+  pub single_gaps-map : (xs : List X) → single_gaps kind (map f xs) ≡ map f (single_gaps kind xs)
+  single_gaps-map [] = refl
+  single_gaps-map (x ∷ xs) = ap (before_run kind (f x)) (single_gaps-map xs) ∙ run-map x (single_gaps kind xs)
+
+  pub after_gap-map : (xs : List X) → after_gap kind (map f xs) ≡ map f (after_gap kind xs)
+  after_gap-map [] = refl
+  after_gap-map (x ∷ xs) = ap (λ k. cond (is_gap k) (map f xs) (f x ∷ map f xs)) (same x) ∙ at (is_gap (kind x))
+    where
+      at : (b : Bool) → cond b (map f xs) (f x ∷ map f xs) ≡ map f (cond b xs (x ∷ xs))
+      at true = refl
+      at false = refl
+
+  pub before_gap-map : (xs : List X) → before_gap kind (map f xs) ≡ map f (before_gap kind xs)
+  before_gap-map [] = refl
+  before_gap-map (x ∷ []) = ap (λ k. cond (is_gap k) [] (f x ∷ [])) (same x) ∙ at (is_gap (kind x))
+    where
+      at : (b : Bool) → cond b [] (f x ∷ []) ≡ map f (cond b [] (x ∷ []))
+      at true = refl
+      at false = refl
+  before_gap-map (x ∷ y ∷ ys) = ap (λ zs. f x ∷ zs) (before_gap-map (y ∷ ys))
+
+kind-erased : (c : Component) → head_kind (erased c) ≡ head_kind c
+kind-erased =
+    by_components (λ c. head_kind (erased c) ≡ head_kind c)
+    (λ p. ap head_kind (erased-Single p) ∙ head_kind-Single (placeless p) ∙ sym (head_kind-Single p))
+    (λ b each. ap head_kind (erased-Block b) ∙ head_kind-Block (erased_block b) ∙ sym (head_kind-Block b))
+
+abbrev AgainErased : Component → Type 0
+AgainErased c = again (erased c) ≡ erased (again c)
+
+agains-each : (cs : List Component) → Each AgainErased cs → map again (map erased cs) ≡ map erased (map again cs)
+agains-each [] each = refl
+agains-each (c ∷ cs) each = ap (λ d. d ∷ map again (map erased cs)) each.0 ∙ ap (λ ds. erased (again c) ∷ ds) (agains-each cs each.1)
+
+all-erased_again : (cs : List Component) → Each AgainErased cs → all_again (map erased cs) ≡ map erased (all_again cs)
+all-erased_again cs each = ap (single_gaps head_kind) (agains-each cs each) ∙ single_gaps-map head_kind erased kind-erased (map again cs)
+
+again-erased : (c : Component) → AgainErased c
+again-erased =
+    by_components AgainErased
+    (λ p. ap again (erased-Single p) ∙ again-Single (placeless p) ∙ sym (ap erased (again-Single p) ∙ erased-Single (short_piece p)))
+    (λ b each.
+    let made : block.Block = record { opening = b.opening; items = all_again b.items; close = b.close } in
+    ap again (erased-Block b) ∙ again-Block (erased_block b)
+    ∙ ap (λ cs. component.Block (record { opening = placeless b.opening; items = cs; close = 0 })) (all-erased_again b.items each)
+    ∙ sym (ap erased (again-Block b) ∙ erased-Block made))
+
+abbrev ErasedTwice : Component → Type 0
+ErasedTwice c = erased (erased c) ≡ erased c
+
+twice-each : (cs : List Component) → Each ErasedTwice cs → map erased (map erased cs) ≡ map erased cs
+twice-each [] each = refl
+twice-each (c ∷ cs) each = ap (λ d. d ∷ map erased (map erased cs)) each.0 ∙ ap (λ ds. erased c ∷ ds) (twice-each cs each.1)
+
+erased-twice : (c : Component) → ErasedTwice c
+erased-twice =
+    by_components ErasedTwice
+    (λ p. ap erased (erased-Single p) ∙ erased-Single (placeless p) ∙ sym (erased-Single p))
+    (λ b each.
+    ap erased (erased-Block b) ∙ erased-Block (erased_block b)
+    ∙ ap (λ cs. component.Block (record { opening = placeless b.opening; items = cs; close = 0 })) (twice-each b.items each)
+    ∙ sym (erased-Block b))
+
+-- a value is the same where the places of its tokens are at 0
+pub bare_value-erased : (v : List Component) → bare_value (map erased v) ≡ bare_value v
+bare_value-erased v =
+    ap (λ cs. map erased (before_gap head_kind (after_gap head_kind cs))) (all-erased_again v (every AgainErased again-erased v))
+    ∙ ap (λ cs. map erased (before_gap head_kind cs)) (after_gap-map head_kind erased kind-erased (all_again v))
+    ∙ ap (map erased) (before_gap-map head_kind erased kind-erased (after_gap head_kind (all_again v)))
+    ∙ twice-each (value_again v) (every ErasedTwice erased-twice (value_again v))

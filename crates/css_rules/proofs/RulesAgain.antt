@@ -6,6 +6,7 @@ use Rattle.css_tokens.specs.declared.kind.Kind.TheVariants as kinds
 use Rattle.css_tokens.specs.declared.component.Component.{Component}
 use Rattle.css_tokens.specs.declared.component.Block as block
 use Rattle.css_tokens.specs.Trees.{words_all}
+use Rattle.css_rules.specs.Contexts.{Context, outside, under_list}
 use Rattle.css_rules.specs.declared.refusal.Refusal.{Refusal}
 use Rattle.css_rules.specs.declared.refusal.Refusal.TheVariants.{Unbuilt}
 use Rattle.css_rules.specs.declared.sheet.Declaration.{Declaration}
@@ -42,7 +43,7 @@ pub record SelectorLaws : Type 0 where
 -- the cuts of a printed sheet
 abbrev sheet_cuts : Bool → List Run → List Cut
 sheet_cuts b [] = record { front = lead_of b; mark = None } ∷ []
-sheet_cuts b (run ∷ runs) = record { front = lead_of b ++ list_again (innermost run.chain); mark = Some (block_again run.declarations) } ∷ sheet_cuts true runs
+sheet_cuts b (run ∷ runs) = record { front = lead_of b ++ list_again (innermost run.context.chain); mark = Some (block_again run.declarations) } ∷ sheet_cuts true runs
 
 lead_braces : (b : Bool) → list_any is_braces (lead_of b) ≡ false
 lead_braces true = ap (λ b. b || false) (braces-Single (piece_of (word kinds.White (10 ∷ []))))
@@ -54,11 +55,11 @@ block_marks ds = braces-Block (record { opening = record { kind = kinds.Open; te
 cuts-sheet : (b : Bool) (runs : List Run) → cuts is_braces (lead_of b ++ sheet_again runs) ≡ sheet_cuts b runs
 cuts-sheet b [] = ap (cuts is_braces) (append-nil (lead_of b)) ∙ cuts-whole is_braces (lead_of b) (lead_braces b)
 cuts-sheet b (run ∷ runs) =
-    let list = list_again (innermost run.chain) in
+    let list = list_again (innermost run.context.chain) in
     let brace = block_again run.declarations in
     ap (λ cs. cuts is_braces (lead_of b ++ cs)) (append_assoc list (brace ∷ line_feed ∷ []) (sheet_again runs))
     ∙ ap (cuts is_braces) (sym (append_assoc (lead_of b) list (brace ∷ line_feed ∷ sheet_again runs)))
-    ∙ cuts-front is_braces (lead_of b ++ list) brace (line_feed ∷ sheet_again runs) (any-append is_braces (lead_of b) list (lead_braces b) (braces-singles (list_words (innermost run.chain)))) (block_marks run.declarations)
+    ∙ cuts-front is_braces (lead_of b ++ list) brace (line_feed ∷ sheet_again runs) (any-append is_braces (lead_of b) list (lead_braces b) (braces-singles (list_words (innermost run.context.chain)))) (block_marks run.declarations)
     ∙ ap (λ rest. record { front = lead_of b ++ list; mark = Some brace } ∷ rest) (cuts-sheet true runs)
 
 -- a printable run with its one list and its declarations in sight
@@ -66,7 +67,7 @@ pub record IsMade (run : Run) : Type 0 where
   pub list : List BareSelector
   pub first : Declaration
   pub more : List Declaration
-  pub is : run ≡ record { chain = list ∷ []; declarations = first ∷ more }
+  pub is : run ≡ record { context = under_list list outside; declarations = first ∷ more }
   pub readable : IsTrue (is_readable_list list)
   pub unnested : list_any is_nesting list ≡ false
   pub each : AllByRecursion IsPrintableDeclaration (first ∷ more)
@@ -76,7 +77,7 @@ made run p = record {
   list = p.selectors.0;
   first = p.some.0;
   more = p.some.1;
-  is = ap (λ chain. record { chain = chain; declarations = run.declarations }) p.selectors.1 ∙ ap (λ ds. record { chain = p.selectors.0 ∷ []; declarations = ds }) p.some.2;
+  is = ap (λ chain. record { context = chain; declarations = run.declarations }) p.selectors.1 ∙ ap (λ ds. record { context = under_list p.selectors.0 outside; declarations = ds }) p.some.2;
   readable = p.selectors.2;
   unnested = p.selectors.3;
   each = let All : List Declaration → Type 0 = AllByRecursion IsPrintableDeclaration in subst All p.some.2 p.each;
@@ -113,13 +114,13 @@ abbrev pub brace_of : List Declaration → block.Block
 brace_of ds = record { opening = record { kind = kinds.Open; text = codes "{"; at = 0 }; items = declarations_again ds; close = 0 }
 
 abbrev runs_in : List Item → List Run
-runs_in items = flat_map (λ item. runs_within item []) items
+runs_in items = flat_map (λ item. runs_within item outside) items
 
 abbrev rules_in : List Cut → List Item
 rules_in cs = flat_map (λ cut. rule_of cut.front cut.mark) cs
 
 both-runs : (xs ys : List Item) → map bare_run (runs_in (xs ++ ys)) ≡ map bare_run (runs_in xs) ++ map bare_run (runs_in ys)
-both-runs xs ys = ap (map bare_run) (flat_map-append (λ item. runs_within item []) xs ys) ∙ map-append bare_run (runs_in xs) (runs_in ys)
+both-runs xs ys = ap (map bare_run) (flat_map-append (λ item. runs_within item outside) xs ys) ∙ map-append bare_run (runs_in xs) (runs_in ys)
 
 module _ (values : ValueLaws) (names : NameLaws) (selectors : SelectorLaws) where
   items-again : (d : Declaration) (ds : List Declaration) → AllByRecursion IsPrintableDeclaration (d ∷ ds) → run_of (declarations_of (inside (block_again (d ∷ ds)))) ≡ item.Plain (map read_again (d ∷ ds)) ∷ []
@@ -129,24 +130,24 @@ module _ (values : ValueLaws) (names : NameLaws) (selectors : SelectorLaws) wher
 
   -- the runs of a printed rule say what was printed
   rule-runs : (b : Bool) (list : List BareSelector) (d : Declaration) (ds : List Declaration) → IsTrue (is_readable_list list) → AllByRecursion IsPrintableDeclaration (d ∷ ds)
-      → map bare_run (runs_in (rule_of (lead_of b ++ list_again list) (Some (block_again (d ∷ ds))))) ≡ record { chain = list ∷ []; declarations = map bare_declaration (d ∷ ds) } ∷ []
+      → map bare_run (runs_in (rule_of (lead_of b ++ list_again list) (Some (block_again (d ∷ ds))))) ≡ record { context = under_list list outside; declarations = map bare_declaration (d ∷ ds) } ∷ []
   rule-runs b list d ds readable printable =
       let front = lead_of b ++ list_again list in
       let brace = block_again (d ∷ ds) in
-      let chain : List (List BareSelector) = bare_list (list_of front) ∷ [] in
+      let chain : Context = under_list (bare_list (list_of front)) outside in
       let rule : style.Style = record { selectors = list_of front; items = run_of (declarations_of (inside brace)); at = first_place (trimmed front) (head brace).at } in
-      ap (λ (rs : List Run). map bare_run (rs ++ [])) (runs_within-Style rule [])
+      ap (λ (rs : List Run). map bare_run (rs ++ [])) (runs_within-Style rule outside)
       ∙ ap (λ (items : List Item). map bare_run (flat_map (λ i. runs_within i chain) items ++ [])) (items-again d ds printable)
       ∙ ap (λ (rs : List Run). map bare_run ((rs ++ []) ++ [])) (runs_within-Plain (map read_again (d ∷ ds)) chain)
-      ∙ ap (λ (bs : List BareDeclaration). record { chain = chain; declarations = bs } ∷ []) (bares-again values (d ∷ ds) printable)
-      ∙ ap (λ (l : List BareSelector). record { chain = l ∷ []; declarations = map bare_declaration (d ∷ ds) } ∷ []) (bare-lead b (list_again list) ∙ selectors.same list (list_again list) readable refl)
+      ∙ ap (λ (bs : List BareDeclaration). record { context = chain; declarations = bs } ∷ []) (bares-again values (d ∷ ds) printable)
+      ∙ ap (λ (l : List BareSelector). record { context = under_list l outside; declarations = map bare_declaration (d ∷ ds) } ∷ []) (bare-lead b (list_again list) ∙ selectors.same list (list_again list) readable refl)
 
   rules-again : (b : Bool) (runs : List Run) → ArePrintable runs → map bare_run (runs_in (rules_in (sheet_cuts b runs))) ≡ map bare_run runs
   rules-again b [] p = refl
   rules-again b (run ∷ runs) p =
       let m = made run p.0 in
-      let P : Run → Type 0 = λ r. map bare_run (runs_in (rule_of (lead_of b ++ list_again (innermost r.chain)) (Some (block_again r.declarations)))) ≡ bare_run r ∷ [] in
-      both-runs (rule_of (lead_of b ++ list_again (innermost run.chain)) (Some (block_again run.declarations))) (rules_in (sheet_cuts true runs))
+      let P : Run → Type 0 = λ r. map bare_run (runs_in (rule_of (lead_of b ++ list_again (innermost r.context.chain)) (Some (block_again r.declarations)))) ≡ bare_run r ∷ [] in
+      both-runs (rule_of (lead_of b ++ list_again (innermost run.context.chain)) (Some (block_again run.declarations))) (rules_in (sheet_cuts true runs))
       ∙ ap (λ (rs : List BareRun). rs ++ map bare_run (runs_in (rules_in (sheet_cuts true runs)))) (subst P (sym m.is) (rule-runs b m.list m.first m.more m.readable m.each))
       ∙ ap (λ (rs : List BareRun). bare_run run ∷ rs) (rules-again true runs p.1)
 
@@ -165,7 +166,7 @@ module _ (values : ValueLaws) (names : NameLaws) (selectors : SelectorLaws) wher
   faultless-again b [] p = ap (λ (cs : List Component). (cond (begins_at_rule cs) (Unbuilt (first_place cs 0) ∷ []) (leftover_refusals cs)) ++ []) (trimmed-lead b)
   faultless-again b (run ∷ runs) p =
       let m = made run p.0 in
-      let P : Run → Type 0 = λ r. rule_refusals (record { front = lead_of b ++ list_again (innermost r.chain); mark = Some (block_again r.declarations) }) ≡ [] in
+      let P : Run → Type 0 = λ r. rule_refusals (record { front = lead_of b ++ list_again (innermost r.context.chain); mark = Some (block_again r.declarations) }) ≡ [] in
       ap (λ (rs : List Refusal). rs ++ flat_map rule_refusals (sheet_cuts true runs)) (subst P (sym m.is) (rule-faultless b m.list m.first m.more m.readable m.unnested m.each))
       ∙ faultless-again true runs p.1
 

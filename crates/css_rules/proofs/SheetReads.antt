@@ -13,6 +13,7 @@ use Rattle.css_tokens.specs.Tokens.{ReadsTo, Reads, classes_of, is_refused, spel
 use Rattle.css_tokens.specs.Trees.{words_all, all_formed}
 use Rattle.css_tokens.specs.Values.{value_text, value_words}
 use Rattle.css_tokens.specs.ValueAgain.{value_again}
+use Rattle.css_rules.specs.Contexts.{outside, under_list}
 use Rattle.css_rules.specs.declared.sheet.Declaration.{Declaration}
 use Rattle.css_rules.specs.declared.selector.Combinator.{Combinator}
 use Rattle.css_rules.specs.declared.selector.TypeName.{TypeName}
@@ -229,7 +230,7 @@ module _ (laws : ReadLaws) where
       let m = made run p.0 in
       let rest = text_of (sheet_again runs) ++ [] in
       let P : Run → Type 0 = λ r. AllByRecursion Stands r.declarations → ReadsOn (run_again r) rest in
-      let of_made : P (record { chain = m.list ∷ []; declarations = m.first ∷ m.more }) = λ standing. run-reads values lists m.list m.first m.more m.readable m.each standing rest (sheet-begins values lists runs p.1) in
+      let of_made : P (record { context = under_list m.list outside; declarations = m.first ∷ m.more }) = λ standing. run-reads values lists m.list m.first m.more m.readable m.each standing rest (sheet-begins values lists runs p.1) in
       on-append (run_again run) (sheet_again runs) [] (subst P (sym m.is) of_made stands.0) (sheet-reads values lists runs p.1 stands.1)
     where
       sheet-begins : ValueLaws → ListText → (rs : List Run) → ArePrintable rs → begins_none white (text_of (sheet_again rs) ++ []) ≡ true
@@ -237,11 +238,11 @@ module _ (laws : ReadLaws) where
       sheet-begins values lists (r ∷ rs) p =
           let m = made r p.0 in
           let tail = block_again r.declarations ∷ line_feed ∷ [] in
-          let list = list_again (innermost r.chain) in
-          let Q : Run → Type 0 = λ q. is_readable_list (innermost q.chain) ≡ true in
-          ap (λ t. begins_none white (t ++ [])) (text-append (list ++ tail) (sheet_again rs) ∙ ap (λ t. t ++ text_of (sheet_again rs)) (text-append list tail ∙ ap (λ t. t ++ text_of tail) (lists.text (innermost r.chain))))
-          ∙ ap (begins_none white) (append_assoc (list_text (innermost r.chain) ++ text_of tail) (text_of (sheet_again rs)) [] ∙ append_assoc (list_text (innermost r.chain)) (text_of tail) (text_of (sheet_again rs) ++ []))
-          ∙ list-begins (innermost r.chain) (text_of tail ++ (text_of (sheet_again rs) ++ [])) (subst Q (sym m.is) m.readable)
+          let list = list_again (innermost r.context.chain) in
+          let Q : Run → Type 0 = λ q. is_readable_list (innermost q.context.chain) ≡ true in
+          ap (λ t. begins_none white (t ++ [])) (text-append (list ++ tail) (sheet_again rs) ∙ ap (λ t. t ++ text_of (sheet_again rs)) (text-append list tail ∙ ap (λ t. t ++ text_of tail) (lists.text (innermost r.context.chain))))
+          ∙ ap (begins_none white) (append_assoc (list_text (innermost r.context.chain) ++ text_of tail) (text_of (sheet_again rs)) [] ∙ append_assoc (list_text (innermost r.context.chain)) (text_of tail) (text_of (sheet_again rs) ++ []))
+          ∙ list-begins (innermost r.context.chain) (text_of tail ++ (text_of (sheet_again rs) ++ [])) (subst Q (sym m.is) m.readable)
 
   -- the text of a printed sheet reads as the words of its components
   pub text-reads : ValueLaws → ListText → (runs : List Run) → ArePrintable runs → AllStand runs → Reads (runs_text runs) (words_all (sheet_again runs))

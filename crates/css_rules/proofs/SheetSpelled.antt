@@ -97,10 +97,10 @@ pub record ListText : Type 0 where
 
 pub text-run : ValueLaws → ListText → (run : Run) → IsPrintable run → text_of (run_again run) ≡ run_text run
 text-run laws lists run p =
-    let list = list_again (innermost run.chain) in
+    let list = list_again (innermost run.context.chain) in
     text-append list (block_again run.declarations ∷ line_feed ∷ [])
-    ∙ ap (λ t. t ++ text_of (block_again run.declarations ∷ line_feed ∷ [])) (lists.text (innermost run.chain))
-    ∙ ap (λ t. list_text (innermost run.chain) ++ t)
+    ∙ ap (λ t. t ++ text_of (block_again run.declarations ∷ line_feed ∷ [])) (lists.text (innermost run.context.chain))
+    ∙ ap (λ t. list_text (innermost run.context.chain) ++ t)
     (text-brace run.declarations (line_feed ∷ [])
     ∙ ap (λ t. codes "{" ++ (t ++ (codes "}" ++ text_of (line_feed ∷ [])))) (text-declarations laws run.declarations p.each)
     ∙ ap (λ t. codes "{" ++ (declarations_text run.declarations ++ (codes "}" ++ t))) (text-cons (word kinds.White (10 ∷ [])) []))
@@ -155,9 +155,9 @@ formed-declarations laws (d ∷ ds) p = formed-append (declaration_again d) (mor
 pub formed-sheet : ValueLaws → ListText → (runs : List Run) → ArePrintable runs → all_formed (sheet_again runs) ≡ true
 formed-sheet laws lists [] p = refl
 formed-sheet laws lists (run ∷ runs) p =
-    let list = list_again (innermost run.chain) in
+    let list = list_again (innermost run.context.chain) in
     formed-append (run_again run) (sheet_again runs)
-    (formed-append list (block_again run.declarations ∷ line_feed ∷ []) (lists.formed (innermost run.chain))
+    (formed-append list (block_again run.declarations ∷ line_feed ∷ []) (lists.formed (innermost run.context.chain))
     (ap (λ b. b && all_formed (line_feed ∷ [])) (is_formed-Block (brace_of run.declarations) ∙ formed-declarations laws run.declarations p.0.each)
     ∙ formed-one (word kinds.White (10 ∷ [])) [] (is_formed-Single (piece_of (word kinds.White (10 ∷ [])))) refl))
     (formed-sheet laws lists runs p.1)

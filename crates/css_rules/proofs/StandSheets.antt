@@ -10,6 +10,7 @@ use Rattle.css_tokens.specs.Again.{is_stop}
 use Rattle.css_tokens.specs.Piece.{Piece, spelled}
 use Rattle.css_tokens.specs.Tokens.{Reads, ReadsTo, classes_of}
 use Rattle.css_tokens.specs.Trees.{words_all}
+use Rattle.css_rules.specs.Contexts.{outside, under_list}
 use Rattle.css_rules.specs.declared.sheet.Declaration.{Declaration}
 use Rattle.css_rules.specs.declared.sheet.Item.{Item}
 use Rattle.css_rules.specs.declared.sheet.Item as item
@@ -127,20 +128,20 @@ module _ (laws : ReadingLaws) where
   RunStands run = AllByRecursion Stands run.declarations
 
   abbrev at_top : Item → List Run
-  at_top i = runs_within i []
+  at_top i = runs_within i outside
 
-  items-stand : (list : List BareSelector) (ds : List Declaration) → AllByRecursion Stands ds → AllStand (flat_map (λ i. runs_within i (list ∷ [])) (run_of ds))
+  items-stand : (list : List BareSelector) (ds : List Declaration) → AllByRecursion Stands ds → AllStand (flat_map (λ i. runs_within i (under_list list outside)) (run_of ds))
   items-stand list [] each = tt
   items-stand list (d ∷ ds) each =
       subst (λ (runs : List Run). AllStand runs)
-      (sym (append-nil (runs_within (item.Plain (d ∷ ds)) (list ∷ [])) ∙ runs_within-Plain (d ∷ ds) (list ∷ [])))
+      (sym (append-nil (runs_within (item.Plain (d ∷ ds)) (under_list list outside)) ∙ runs_within-Plain (d ∷ ds) (under_list list outside)))
       (each, tt)
 
   style-stands : (s : style.Style) (ds : List Declaration) → s.items ≡ run_of ds → AllByRecursion Stands ds → AllStand (flat_map at_top (item.Style s ∷ []))
   style-stands s ds is each =
       let list = bare_list s.selectors in
       subst (λ (runs : List Run). AllStand runs)
-      (sym (append-nil (at_top (item.Style s)) ∙ runs_within-Style s [] ∙ ap (λ (items : List Item). flat_map (λ i. runs_within i (list ∷ [])) items) is))
+      (sym (append-nil (at_top (item.Style s)) ∙ runs_within-Style s outside ∙ ap (λ (items : List Item). flat_map (λ i. runs_within i (under_list list outside)) items) is))
       (items-stand list ds each)
 
   rule-stands : (prelude : List Component) (mark : Option Component) → MarkStands mark → AllStand (flat_map at_top (rule_of prelude mark))

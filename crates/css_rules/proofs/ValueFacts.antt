@@ -17,6 +17,7 @@ use Rattle.css_rules.specs.Components.{Layer, is_gap, is_semicolon, is_bang, is_
 use Rattle.css_rules.specs.Cuts.{trimmed, trimmed_end}
 use Rattle.css_rules.proofs.CutLemmas.{trimmed_start-other, trimmed_end-other}
 use Rattle.css_rules.proofs.CutAgain.{last_of}
+use Rattle.css_rules.proofs.PlacesTrees.{OnePairing}
 use Rattle.css_rules.proofs.Heads.{gap-Single, gap-Block, semicolon-Single, semicolon-Block, bang-Single, bang-Block, braces-Single, braces-Block}
 
 -- what the token crate ensures of printed values
@@ -24,6 +25,8 @@ pub record ValueLaws : Type 0 where
   pub words : (v : List Component) → IsTrue (all_formed v) → words_all (value_again v) ≡ value_words v
   pub formed : (v : List Component) → IsTrue (all_formed v) → IsTrue (all_formed (value_again v))
   pub text : (v : List Component) → IsTrue (all_formed v) → value_text (value_again v) ≡ value_text v
+  pub twice : (v : List Component) → IsTrue (all_formed v) → value_words (value_again v) ≡ value_words v
+  pub one : OnePairing
   pub solid : (v : List Component) → filter is_solid (value_again v) ≡ map again (filter is_solid v)
   pub starts : (v cs : List Component) (c : Component) → value_again v ≡ c ∷ cs → IsTrue (is_solid c)
   pub ends : (v cs : List Component) (c : Component) → value_again v ≡ cs ++ c ∷ [] → IsTrue (is_solid c)

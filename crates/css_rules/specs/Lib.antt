@@ -11,7 +11,13 @@ pub mod ReadableSelectors
 pub mod SelectorAtoms
 pub mod SelectorWords
 pub mod Signs
+pub mod Erased
+pub mod Contexts
 pub mod Runs
+pub mod ItemFold
+pub mod ItemInduction
+pub mod Statements
+pub mod RunStatements
 pub mod SheetTexts
 pub mod SheetAgain
 pub mod Printable

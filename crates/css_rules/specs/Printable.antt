@@ -14,6 +14,7 @@ use Rattle.css_rules.specs.Components.{is_bang, is_semicolon, is_custom, is_gap}
 use Rattle.css_rules.specs.Declarations.{property_name, may_be_value}
 use Rattle.css_rules.specs.Refusals.{is_unbuilt_property, sought_in}
 use Rattle.css_rules.specs.Runs.{Run}
+use Rattle.css_rules.specs.Contexts.{outside, under_list}
 
 -- is it the nesting selector?
 abbrev pub is_parent : Simple → Bool
@@ -48,7 +49,7 @@ pub record IsPrintableDeclaration (d : Declaration) : Type 0 where
 
 -- a run of a rule that is not nested, whose selectors have a spelling, with a declaration at least, and each declaration so
 pub record IsPrintable (run : Run) : Type 0 where
-  pub selectors : (list : List BareSelector) × (run.chain ≡ list ∷ []) × (is_readable_list list ≡ true) × (list_any is_nesting list ≡ false)
+  pub selectors : (list : List BareSelector) × (run.context ≡ under_list list outside) × (is_readable_list list ≡ true) × (list_any is_nesting list ≡ false)
   pub some : (first : Declaration) × (more : List Declaration) × (run.declarations ≡ first ∷ more)
   pub each : AllByRecursion IsPrintableDeclaration run.declarations
 

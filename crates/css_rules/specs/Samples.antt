@@ -5,6 +5,7 @@ use Rattle.css_tokens.specs.declared.kind.Kind.{Kind}
 use Rattle.css_tokens.specs.declared.kind.Kind.TheVariants as kinds
 use Rattle.css_tokens.specs.declared.component.Component.{Component}
 use Rattle.css_tokens.specs.declared.component.Component as components
+use Rattle.css_rules.specs.Contexts.{outside, under_list}
 use Rattle.css_rules.specs.declared.selector.Combinator.{Combinator}
 use Rattle.css_rules.specs.declared.selector.TypeName.TheVariants as types
 use Rattle.css_rules.specs.declared.selector.Simple.{Simple}
@@ -170,8 +171,8 @@ marked at name value = record { name = codes name; value = value; important = tr
 
 -- a declaration without its place that is not important
 abbrev pub bare : String → String → BareDeclaration
-bare name value = record { name = codes name; value = codes value; important = false }
+bare name value = record { name = codes name; value = components.Single (record { kind = kinds.Ident; text = codes value; at = 0 }) ∷ []; important = false }
 
 -- the declarations of a rule with this selector list
 abbrev pub run : List BareSelector → List BareDeclaration → BareRun
-run list ds = record { chain = list ∷ []; declarations = ds }
+run list ds = record { context = under_list list outside; declarations = ds }

@@ -54,7 +54,7 @@ block_again ds = component.Block (record { opening = record { kind = kinds.Open;
 
 -- the style rule of a run: its innermost selector list, its block, and a line feed
 abbrev pub run_again : Run → List Component
-run_again run = list_again (innermost run.chain) ++ block_again run.declarations ∷ line_feed ∷ []
+run_again run = list_again (innermost run.context.chain) ++ block_again run.declarations ∷ line_feed ∷ []
 
 -- the style rules of all runs, one after another
 abbrev pub sheet_again : List Run → List Component

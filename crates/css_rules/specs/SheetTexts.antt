@@ -102,7 +102,7 @@ innermost (list ∷ more ∷ chain) = innermost (more ∷ chain)
 
 -- the style rule of a run: its innermost selector list, its block, and a line feed
 abbrev pub run_text : Run → List ℕ
-run_text run = braced_text (innermost run.chain) (declarations_text run.declarations)
+run_text run = braced_text (innermost run.context.chain) (declarations_text run.declarations)
 
 -- the style rules of all runs, one after another
 abbrev pub runs_text : List Run → List ℕ

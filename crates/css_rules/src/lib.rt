@@ -16,10 +16,10 @@ mod standing_law;
 mod within_law;
 
 pub use first_law::{the_first_fault_is_named, the_first_refusal_is_named};
-pub use places_law::places_do_not_matter;
+pub use places_law::{places_do_not_matter, runs_say};
 pub use reader::{RuleFault, read_sheet};
 pub use refusal::{Refusal, Sought};
-pub use sheet::{Declaration, Item, Sheet, Style};
+pub use sheet::{Declaration, Item, LayerName, Sheet, Style};
 pub use sheet_laws::{sheets_are_printable, sheets_are_read_again};
 pub use standing_law::values_stand;
 pub use within_law::refusals_stand_within;

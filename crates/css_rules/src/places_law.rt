@@ -3,7 +3,10 @@ ghost use Rattle.css_rules.specs.Runs.{bare_runs};
 ghost use Rattle.css_rules.specs.Sheets.{sheet_of};
 ghost use Rattle.css_tokens.specs.Trees.{all_formed, words_all};
 ghost use Rattle.css_tokens.specs.declared.component.Component.{Component};
-ghost use Rattle.std.specs.Prelude.{◌≡◌, List, IsTrue};
+ghost use Rattle.css_rules.specs.RunStatements.{run_says};
+ghost use Rattle.css_rules.specs.Statements.{statements_of};
+ghost use Rattle.css_rules.specs.declared.sheet.Sheet.{Sheet};
+ghost use Rattle.std.specs.Prelude.{◌≡◌, List, IsTrue, flat_map};
 
 /// What a sheet says does not depend on where its tokens stand: sheets of the same words say the same.
 pub fn places_do_not_matter()
@@ -11,3 +14,8 @@ pub fn places_do_not_matter()
 {
     css_tokens::one_pairing();
 }
+
+/// A sheet says what its runs say.
+pub fn runs_say()
+    ensures { (sheet : Sheet) → statements_of sheet ≡ flat_map run_says (bare_runs sheet) }
+{}

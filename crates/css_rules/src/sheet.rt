@@ -13,6 +13,14 @@ pub struct Declaration<'a> {
     pub at: u32,
 }
 
+/// A step of the path of a layer (CSS Cascading 5, section 6.4).
+#[derive(Debug, Drop)]
+pub enum LayerName<'a> {
+    Named(Text<'a>),
+    /// The number of a layer without a name.
+    Anonymous(u32),
+}
+
 /// What stands in a sheet or in a style rule.
 #[derive(Debug, Drop)]
 #[cycle(item)]

@@ -29,6 +29,7 @@ pub fn sheets_are_read_again()
     ensures same { (runs : List Run) → ArePrintable runs → bare_runs (sheet_of (sheet_again runs)) ≡ map bare_run runs }
 {
     css_tokens::printed_again();
+    css_tokens::one_pairing();
     css_tokens::plain_name();
     css_tokens::words_again();
     css_tokens::names_spell();

@@ -5,7 +5,7 @@ use Rattle.css_tokens.specs.declared.kind.Kind.{Kind}
 use Rattle.css_tokens.specs.declared.component.Component.{Component}
 use Rattle.css_tokens.specs.Piece.{Word, spelled}
 use Rattle.css_tokens.specs.Trees.{words_all, all_formed}
-use Rattle.css_tokens.specs.Values.{is_gap, single_gaps, after_gap, before_gap, word_kind, short_word, printed_words, value_text}
+use Rattle.css_tokens.specs.Values.{is_gap, single_gaps, after_gap, before_gap, word_kind, short_word, printed_words, value_words, value_text}
 use Rattle.css_tokens.specs.ValueAgain.{head_kind, again, all_again, value_again, is_solid}
 use Rattle.css_tokens.proofs.GapLemmas.{kind_cases}
 use Rattle.css_tokens.proofs.ValueLemmas.{singled, short_word-solid}
@@ -47,6 +47,9 @@ printed_words-printed ws =
     ∙ before_gap-same word_kind (printed_words ws) ends
 
 -- the text prints as itself
+pub value_words-again : (v : List Component) → all_formed v ≡ true → value_words (value_again v) ≡ value_words v
+value_words-again v e = ap printed_words (words_value_again v e) ∙ printed_words-printed (words_all v)
+
 pub value_text-again : (v : List Component) → all_formed v ≡ true → value_text (value_again v) ≡ value_text v
 value_text-again v e = ap (λ ws. spelled (printed_words ws)) (words_value_again v e) ∙ ap spelled (printed_words-printed (words_all v))
 

@@ -127,6 +127,7 @@ pub fn printed_again()
     ensures words { (v : List Component) → IsTrue (all_formed v) → words_all (value_again v) ≡ value_words v }
     ensures formed { (v : List Component) → IsTrue (all_formed v) → IsTrue (all_formed (value_again v)) }
     ensures text { (v : List Component) → IsTrue (all_formed v) → value_text (value_again v) ≡ value_text v }
+    ensures twice { (v : List Component) → IsTrue (all_formed v) → value_words (value_again v) ≡ value_words v }
     ensures solid { (v : List Component) → filter is_solid (value_again v) ≡ map again (filter is_solid v) }
     ensures starts { (v cs : List Component) (c : Component) → value_again v ≡ c ∷ cs → IsTrue (is_solid c) }
     ensures ends { (v cs : List Component) (c : Component) → value_again v ≡ cs ++ c ∷ [] → IsTrue (is_solid c) }

@@ -1,4 +1,5 @@
-use Rattle.std.proofs.Common.{◌∙◌, ap, sym}
+use Rattle.std.proofs.Common.{◌∙◌, ap, sym, flat_map}
+use Rattle.css_rules.specs.RunStatements.{run_says}
 use Rattle.css_rules.specs.Runs.{bare_runs}
 use Rattle.css_rules.specs.Sheets.{sheet_of}
 use Rattle.css_rules.specs.SheetTexts.{sheet_text}
@@ -9,6 +10,7 @@ pub returns : goal.returns
 returns c =
     let again = c.sheets_are_read_again.ensures in
     let laws : SheetLaws = record {
+      said = c.runs_say.ensures;
       one = c.one_reading.ensures.one;
       names = c.names_spell.ensures.plain;
       first = c.names_spell.ensures.first;
@@ -24,5 +26,5 @@ returns c =
     record {
       again = reads-again laws;
       kept = λ source cs plain read. again-keeps source (sheet_text (sheet_of cs)) (reads-again laws source cs plain read);
-      one = λ text a b p q. ap bare_runs p.2 ∙ one-sheet laws text p.0 q.0 p.1 q.1 ∙ sym (ap bare_runs q.2);
+      one = λ text a b p q. laws.said a ∙ ap (flat_map run_says) (ap bare_runs p.2 ∙ one-sheet laws text p.0 q.0 p.1 q.1 ∙ sym (ap bare_runs q.2)) ∙ sym (laws.said b);
     }

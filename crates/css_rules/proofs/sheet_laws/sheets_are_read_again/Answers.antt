@@ -10,7 +10,7 @@ returns c =
     let printed = c.printed_again.ensures in
     let again = c.words_again.ensures in
     let lists = c.selectors_are_read_again.ensures in
-    let values : ValueLaws = record { words = printed.words; formed = printed.formed; text = printed.text; solid = printed.solid; starts = printed.starts; ends = printed.ends } in
+    let values : ValueLaws = record { words = printed.words; formed = printed.formed; text = printed.text; twice = printed.twice; one = c.one_pairing.ensures; solid = printed.solid; starts = printed.starts; ends = printed.ends } in
     let names : NameLaws = record { plain = c.plain_name.ensures } in
     let selectors : SelectorLaws = record { sound = lists.sound; same = lists.same } in
     let texts : ListText = record { text = lists.text; formed = lists.formed } in

@@ -1,0 +1,13 @@
+-- What the surroundings of a declaration are in a world.
+use Rattle.css_rules.specs.Contexts.{LayerPath, Context}
+use Rattle.cascade_spec.specs.Worlds.{World}
+use Rattle.cascade_spec.specs.Matching.{Around, around_all}
+
+-- the layer, and what the selector lists are for a declaration in them
+pub record Standing : Type 0 where
+  pub layer : LayerPath
+  pub around : Around
+
+-- what a context is in a world; nothing else of it is looked at
+abbrev pub standing_of : World → Context → Standing
+standing_of world c = record { layer = c.layer; around = around_all world c.chain }

@@ -1,0 +1,49 @@
+-- What a sheet says, places aside: in order of position, each declaration with what stands round it.
+use Rattle.std.specs.Prelude.{List, map, flat_map, ◌≡◌}
+use Rattle.std.proofs.Common.{◌∙◌, ap}
+use Rattle.std.proofs.lemmas.List.Folds.{flat_map-map}
+use Rattle.css_rules.specs.declared.sheet.Declaration.{Declaration}
+use Rattle.css_rules.specs.declared.sheet.Item.{Item}
+use Rattle.css_rules.specs.declared.sheet.Item as item
+use Rattle.css_rules.specs.declared.sheet.Style as style
+use Rattle.css_rules.specs.declared.sheet.Sheet.{Sheet}
+use Rattle.css_rules.specs.BareSelectors.{bare_list}
+use Rattle.css_rules.specs.Contexts.{LayerPath, Context, outside, under_list}
+use Rattle.css_rules.specs.ItemFold.{Steps, folded, folded-Plain, folded-Style}
+use Rattle.css_rules.specs.Runs.{BareDeclaration, bare_declaration}
+
+-- one thing that a sheet says: a declaration, or that it mentions a layer
+pub data Statement : Type 0 where
+  Declares : Context → BareDeclaration → Statement
+  Mentions : Context → LayerPath → Statement
+
+-- what an item says inside what is round it
+abbrev pub Saying : Type 0
+Saying = Context → List Statement
+
+-- declarations say themselves, and a style rule what its items say inside its selector list
+abbrev pub saying : Steps Saying
+saying = record {
+  plain = λ ds c. map (λ d. Declares c (bare_declaration d)) ds;
+  style = λ selectors at inner c. flat_map (λ (says : Saying). says (under_list (bare_list selectors) c)) inner;
+}
+
+-- what an item says inside what is round it
+abbrev pub says : Item → Saying
+says = folded saying
+
+-- what items say one after another
+abbrev pub say_all : List Item → Saying
+say_all items c = flat_map (λ item. says item c) items
+
+-- what a sheet says
+abbrev pub statements_of : Sheet → List Statement
+statements_of sheet = say_all sheet.items outside
+
+-- Declarations say themselves.
+pub says-Plain : (ds : List Declaration) (c : Context) → says (item.Plain ds) c ≡ map (λ d. Declares c (bare_declaration d)) ds
+says-Plain ds c = ap (λ (f : Saying). f c) (folded-Plain saying ds)
+
+-- A style rule says what its items say inside its selector list.
+pub says-Style : (s : style.Style) (c : Context) → says (item.Style s) c ≡ say_all s.items (under_list (bare_list s.selectors) c)
+says-Style s c = ap (λ (f : Saying). f c) (folded-Style saying s) ∙ flat_map-map (λ (f : Saying). f (under_list (bare_list s.selectors) c)) says s.items
