@@ -21,7 +21,7 @@ use Rattle.css_rules.specs.Standing.{AllStand}
 use Rattle.css_rules.specs.declared.sheet.Sheet.{Sheet}
 use Rattle.css_rules.specs.Statements.{statements_of}
 use Rattle.css_rules.specs.RunStatements.{run_says}
-use Rattle.cascade_spec.specs.Contents.{winner}
+use Rattle.cascade_spec.specs.Contents.{winner, passed_rules}
 use Rattle.cascade_spec.specs.Readings.{ReadsAs, IsReadAgain, KeepsWinners}
 
 and_left : (a b : Bool) → (a && b) ≡ true → a ≡ true
@@ -111,5 +111,5 @@ module _ (laws : SheetLaws) where
 pub again-keeps : (source written : List ℕ) → IsReadAgain source written → KeepsWinners source written
 again-keeps source written again = record {
   readable = again.readable;
-  same = λ old new is_old is_new q. record { winner = ap (winner q) (again.same old new is_old is_new) };
+  same = λ old new is_old is_new q. let same = again.same old new is_old is_new in record { winner = ap (winner q) same; passed = ap (passed_rules q) same };
 }

@@ -2,3 +2,5 @@ pub mod Computing
 pub mod KeptLemmas
 pub mod KeepsLemmas
 pub mod WinnerLemmas
+pub mod RelationLemmas
+pub mod LayerLemmas

@@ -2,7 +2,9 @@ pub mod Lines
 pub mod Specificities
 pub mod Worlds
 pub mod Matching
+pub mod Relations
 pub mod Layers
+pub mod LayerOrder
 pub mod Standings
 pub mod Entries
 pub mod Cascade

@@ -10,7 +10,7 @@ use Rattle.css_tokens.specs.declared.component.Component as component
 use Rattle.css_rules.specs.declared.sheet.LayerName.TheVariants as LayerName
 use Rattle.css_rules.specs.Contexts.{LayerPath, outside}
 use Rattle.css_rules.specs.Runs.{BareDeclaration}
-use Rattle.css_rules.specs.Statements.{Statement, Declares, Mentions}
+use Rattle.css_rules.specs.Statements.{BarePassed, Statement, Declares, Mentions}
 use Rattle.css_rules.specs.Samples.{every, one}
 use Rattle.cascade_spec.specs.declared.document.Element.{Element}
 use Rattle.cascade_spec.specs.declared.document.Document.{Document}
@@ -222,6 +222,14 @@ layered order statements = map (Mentions outside) order ++ statements
 -- a declaration in a rule `*` in this layer
 abbrev pub in_layer : LayerPath → BareDeclaration → Statement
 in_layer path d = Declares (record { layer = path; chain = (one every ∷ []) ∷ [] }) d
+
+-- a rule that is passed on
+abbrev pub passed : String → String → String → BarePassed
+passed keyword prelude block = record { keyword = codes keyword; prelude = codes prelude; block = codes block }
+
+-- a `@font-face` with this block
+abbrev pub face : String → BarePassed
+face block = passed "font-face" "" block
 
 -- what a longhand of the paragraph `.a.red` is, among declarations of the importance
 abbrev pub asked : Bool → String → Question

@@ -1,10 +1,11 @@
--- What the statements of a sheet show to a question (CSS Cascading 5, section 6).
+-- What the statements of a sheet show to a question (CSS Cascading 5, section 6): three lists, of entries, of mentions of layers and of passed rules.
 use Rattle.std.specs.Prelude.{ℕ, List, [], ◌∷◌, ◌++◌, flat_map, Bool, ◌&&◌, Option, None, if◌then◌else◌}
-use Rattle.std.specs.List.{filter_map}
+use Rattle.std.specs.List.{filter_map, list_any}
 use Rattle.std.specs.Option.{option_map}
+use Rattle.css_tokens.specs.Trees.{is_text}
 use Rattle.css_rules.specs.Contexts.{LayerPath}
 use Rattle.css_rules.specs.Runs.{BareDeclaration}
-use Rattle.css_rules.specs.Statements.{Statement, Declares, Mentions}
+use Rattle.css_rules.specs.Statements.{BarePassed, Statement, Declares, Passes, Mentions}
 use Rattle.cascade_spec.specs.Worlds.{World}
 use Rattle.cascade_spec.specs.Standings.{Standing, standing_of}
 use Rattle.cascade_spec.specs.Entries.{Entry, entries_of, is_active, value_set}
@@ -25,30 +26,51 @@ entry_shows q s e =
 abbrev pub declaration_shows : Question → Standing → BareDeclaration → List Shown
 declaration_shows q s d = filter_map (entry_shows q s) (entries_of q.world d)
 
--- what a statement shows: of its entries, and the layer that it mentions
+-- what the entries of a statement show
 abbrev pub entries_shown : Question → Statement → List Shown
 entries_shown q (Declares c d) = declaration_shows q (standing_of q.world c) d
+entries_shown q (Passes c rule) = []
 entries_shown q (Mentions c path) = []
 
+-- the layer that a statement mentions
 abbrev pub layers_shown : World → Statement → List LayerPath
 layers_shown world (Declares c d) = []
+layers_shown world (Passes c rule) = []
 layers_shown world (Mentions c path) = path ∷ []
 
--- what several statements show, in order of position: of their entries, and the mentions of layers
+-- the rule that a statement passes on
+abbrev pub passed_shown : World → Statement → List BarePassed
+passed_shown world (Declares c d) = []
+passed_shown world (Passes c rule) = rule ∷ []
+passed_shown world (Mentions c path) = []
+
+-- what several statements show, in order of position: of their entries, the layers that they mention, and the rules that they pass on
 pub record Showing : Type 0 where
   pub entries : List Shown
   pub layers : List LayerPath
+  pub passed : List BarePassed
 
+-- what these statements show
 abbrev pub showing : Question → List Statement → Showing
 showing q statements = record {
   entries = flat_map (entries_shown q) statements;
   layers = flat_map (layers_shown q.world) statements;
+  passed = flat_map (passed_shown q.world) statements;
 }
 
 -- the one after the other
 abbrev pub joined : Showing → Showing → Showing
-joined a b = record { entries = a.entries ++ b.entries; layers = a.layers ++ b.layers }
+joined a b = record { entries = a.entries ++ b.entries; layers = a.layers ++ b.layers; passed = a.passed ++ b.passed }
 
 -- the winning value among what is shown, where there is one
 abbrev pub winner_among : Bool → Showing → Option (List ℕ)
 winner_among important s = option_map (λ (x : Shown). x.value) (winning important s.layers s.entries)
+
+-- are the two passed rules equal?
+abbrev pub same_rule : BarePassed → BarePassed → Bool
+same_rule a b = is_text a.keyword b.keyword && (is_text a.prelude b.prelude && is_text a.block b.block)
+
+-- each rule after which no equal one stands
+abbrev pub last_ones : List BarePassed → List BarePassed
+last_ones [] = []
+last_ones (rule ∷ rules) = if list_any (same_rule rule) rules then last_ones rules else rule ∷ last_ones rules

@@ -11,11 +11,12 @@ ghost use Rattle.cascade_spec.specs.Specificities.{plus, specificity_cmp, greate
 ghost use Rattle.cascade_spec.specs.Matching.{top, within, selector_holds, selector_specificity};
 ghost use Rattle.cascade_spec.specs.Layers.{layer_cmp};
 ghost use Rattle.cascade_spec.specs.Entries.{is_active, value_set};
-ghost use Rattle.css_rules.specs.Statements.{statements_of};
+ghost use Rattle.css_rules.specs.Contexts.{outside};
+ghost use Rattle.css_rules.specs.Statements.{Passes, Mentions, statements_of};
 ghost use Rattle.cascade_spec.specs.Cascade.{winning};
-ghost use Rattle.cascade_spec.specs.Contents.{winner};
-ghost use Rattle.cascade_spec.specs.Showing.{showing};
-ghost use Rattle.cascade_spec.specs.Samples.{page, deep, whole, before, kind, class, id, parent, also, three, led, led_two, inside, inner, matched, specificity, layer, sublayer, innermost, unnamed, mentions, more_mentions, seen, normal, important, entry, important_entry, rule, list_rule, nested_rule, browser, asked, given, layered, in_layer};
+ghost use Rattle.cascade_spec.specs.Contents.{winner, passed_rules};
+ghost use Rattle.cascade_spec.specs.Showing.{showing, last_ones};
+ghost use Rattle.cascade_spec.specs.Samples.{page, deep, whole, before, kind, class, id, parent, also, three, led, led_two, inside, inner, matched, specificity, layer, sublayer, innermost, unnamed, mentions, more_mentions, seen, normal, important, entry, important_entry, rule, list_rule, nested_rule, browser, asked, given, layered, in_layer, passed, face};
 
 /// Lines and columns begin at 1, and only LF begins a line.
 pub fn lines_and_columns()
@@ -165,6 +166,8 @@ pub fn layers_have_an_order()
     ensures innermost_is_lower { layer_cmp more_mentions (innermost "base" "theme" "dark") (sublayer "base" "theme") ≡ Less }
     ensures inner_of_an_earlier_inner { layer_cmp more_mentions (innermost "base" "theme" "dark") (sublayer "base" "reset") ≡ Less }
     ensures same_inner_name { layer_cmp (layer "a" ∷ layer "b" ∷ sublayer "b" "x" ∷ sublayer "a" "x" ∷ []) (sublayer "a" "x") (sublayer "b" "x") ≡ Less }
+    ensures mentioned_by_its_sublayer { layer_cmp (sublayer "b" "x" ∷ layer "a" ∷ layer "b" ∷ []) (layer "b") (layer "a") ≡ Less }
+    ensures not_mentioned_by_its_layer { layer_cmp (layer "a" ∷ sublayer "a" "y" ∷ sublayer "a" "x" ∷ []) (sublayer "a" "x") (sublayer "a" "y") ≡ Greater }
     ensures name_in_another_case { layer_cmp (layer "Base" ∷ layer "base" ∷ []) (layer "base") (layer "Base") ≡ Greater }
 {}
 
@@ -227,6 +230,16 @@ pub fn layers_win()
     ensures none { winning false mentions [] ≡ None }
     ensures by_the_order_of_mention { winner (asked false "color") (layered (layer "b" ∷ layer "a" ∷ []) (in_layer (layer "a") (normal "color" "red") ∷ in_layer (layer "b") (normal "color" "blue") ∷ [])) ≡ Some (codes "red") }
     ensures by_the_order_of_mention_important { winner (asked true "color") (layered (layer "b" ∷ layer "a" ∷ []) (in_layer (layer "a") (important "color" "red") ∷ in_layer (layer "b") (important "color" "blue") ∷ [])) ≡ Some (codes "blue") }
+{}
+
+/// Of equal rules that are passed on the last stands; what differs in its name, its prelude or its block stays.
+pub fn rules_are_passed_on()
+    ensures last_of_equal_ones { last_ones (face "a" ∷ face "b" ∷ face "a" ∷ []) ≡ face "b" ∷ face "a" ∷ [] }
+    ensures each_of_three { last_ones (face "a" ∷ face "a" ∷ face "a" ∷ []) ≡ face "a" ∷ [] }
+    ensures other_name { last_ones (face "a" ∷ passed "page" "" "a" ∷ []) ≡ face "a" ∷ passed "page" "" "a" ∷ [] }
+    ensures other_prelude { last_ones (passed "keyframes" "x" "a" ∷ passed "keyframes" "y" "a" ∷ []) ≡ passed "keyframes" "x" "a" ∷ passed "keyframes" "y" "a" ∷ [] }
+    ensures beside_others { passed_rules (asked false "color") (Passes outside (face "a") ∷ Mentions outside (layer "b") ∷ Passes outside (face "b") ∷ []) ≡ face "a" ∷ face "b" ∷ [] }
+    ensures no_winner { winner (asked false "color") (Passes outside (face "a") ∷ []) ≡ None }
 {}
 
 /// Which declaration of a written sheet wins for the paragraph `.a.red`.

@@ -1,13 +1,23 @@
 //! Laws about the definitions of this crate, each the contract of a function that does nothing.
 
-ghost use Rattle.std.specs.Prelude.{◌≡◌, ◌++◌, ℕ, List, IsTrue, Bool, Some};
+ghost use Rattle.std.specs.Prelude.{◌≡◌, ◌++◌, [], ℕ, List, IsTrue, Bool, Some, flat_map};
+ghost use Rattle.std.specs.List.{AllByRecursion};
 ghost use Rattle.css_tokens.specs.declared.component.Component.{Component};
 ghost use Rattle.css_tokens.specs.Tokens.{is_plain};
-ghost use Rattle.css_rules.specs.Contexts.{LayerPath};
-ghost use Rattle.css_rules.specs.Statements.{Statement, statements_of};
+ghost use Rattle.css_rules.specs.BareSelectors.{BareSelector};
+ghost use Rattle.css_rules.specs.Contexts.{LayerPath, Context, outside, under_list};
+ghost use Rattle.css_rules.specs.Statements.{Statement, say_all, statements_of};
 ghost use Rattle.css_rules.specs.Sheets.{sheet_of};
 ghost use Rattle.css_rules.specs.SheetTexts.{sheet_text};
+ghost use Rattle.css_rules.specs.declared.selector.Combinator.TheVariants.{Descendant, Child, Next, Later};
+ghost use Rattle.css_rules.specs.declared.sheet.Item.{Item};
 ghost use Rattle.css_rules.specs.declared.sheet.Sheet.{Sheet};
+ghost use Rattle.cascade_spec.specs.declared.document.Document.{Document};
+ghost use Rattle.cascade_spec.specs.Worlds.{World};
+ghost use Rattle.cascade_spec.specs.Matching.{top, within, around_all, parent_of, is_related};
+ghost use Rattle.cascade_spec.specs.Relations.{IsReached, IsPrevious, previous_of, ParentsComeFirst, HoldsOfOne};
+ghost use Rattle.cascade_spec.specs.LayerOrder.{AreOrdered};
+ghost use Rattle.cascade_spec.specs.Standings.{standing_of};
 ghost use Rattle.cascade_spec.specs.Cascade.{Question, Shown, IsWinner, winning};
 ghost use Rattle.cascade_spec.specs.Contents.{IsKept, SameWinners};
 ghost use Rattle.cascade_spec.specs.Showing.{showing, joined};
@@ -37,9 +47,40 @@ pub fn one_entry_wins()
     ensures one { (important : Bool) (mentions : List LayerPath) (all : List Shown) (i j : ℕ) (x y : Shown) → IsWinner important mentions all i x → IsWinner important mentions all j y → i ≡ j }
 {}
 
-/// What statements show one after another is the one showing and then the other, and what shows the same is kept.
+/// A combinator asks the element that stands as the standard says (Selectors 4, section 15): a child its parent, a
+/// descendant each ancestor, a next sibling the one nearest before it, and a later sibling each one before it, along chains
+/// of parents and of siblings of any length.
+pub fn combinators_relate()
+    ensures child { (doc : Document) (test : ℕ → Bool) (n : ℕ) → HoldsOfOne (is_related doc Child test n) test (λ m. parent_of doc n ≡ Some m) }
+    ensures descendant { (doc : Document) (test : ℕ → Bool) → ParentsComeFirst doc → (n : ℕ) → HoldsOfOne (is_related doc Descendant test n) test (λ m. IsReached (parent_of doc) m n) }
+    ensures next { (doc : Document) (test : ℕ → Bool) (n : ℕ) → HoldsOfOne (is_related doc Next test n) test (λ m. previous_of doc n ≡ Some m) }
+    ensures later { (doc : Document) (test : ℕ → Bool) (n : ℕ) → HoldsOfOne (is_related doc Later test n) test (λ m. IsReached (previous_of doc) m n) }
+    ensures previous { (doc : Document) (n m : ℕ) → previous_of doc n ≡ Some m → IsPrevious doc m n }
+    ensures only_previous { (doc : Document) (n m : ℕ) → IsPrevious doc m n → previous_of doc n ≡ Some m }
+{}
+
+/// At the top of a sheet nothing is round a declaration, and it is in no layer. A style rule's list stands inside what is
+/// round the rule, however many lists that is, and in the same layer (CSS Nesting 1, section 3).
+pub fn surroundings_stand()
+    ensures none { (world : World) → standing_of world outside ≡ record { layer = []; around = top } }
+    ensures one_more { (world : World) (list : List BareSelector) (c : Context) → standing_of world (under_list list c) ≡ record { layer = c.layer; around = within world (around_all world c.chain) list } }
+{}
+
+/// Layers have the order of the standard, whoever made the list of mentions (CSS Cascading 5, section 6.4).
+pub fn layers_are_ordered()
+    ensures { (mentions : List LayerPath) → AreOrdered mentions }
+{}
+
+/// What items say and statements show one after another is the one and then the other.
+pub fn contents_join()
+    ensures said { (a b : List Item) (c : Context) → say_all (a ++ b) c ≡ say_all a c ++ say_all b c }
+    ensures shown { (q : Question) (a b : List Statement) → showing q (a ++ b) ≡ joined (showing q a) (showing q b) }
+{}
+
+/// Statements that show the same keep the winners, also where this is so of what is made of each item; and what is kept
+/// twice is kept.
 pub fn kept_is_kept()
-    ensures joined { (q : Question) (a b : List Statement) → showing q (a ++ b) ≡ joined (showing q a) (showing q b) }
     ensures shown { (q : Question) (old new : List Statement) → showing q new ≡ showing q old → IsKept q old new }
+    ensures by_items { (q : Question) (old new : Item → List Statement) (items : List Item) → AllByRecursion (λ item. showing q (new item) ≡ showing q (old item)) items → IsKept q (flat_map old items) (flat_map new items) }
     ensures twice { (a b c : List Statement) → SameWinners a b → SameWinners b c → SameWinners a c }
 {}

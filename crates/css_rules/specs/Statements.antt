@@ -1,5 +1,5 @@
 -- What a sheet says, places aside: in order of position, each declaration with what stands round it.
-use Rattle.std.specs.Prelude.{List, map, flat_map, ◌≡◌}
+use Rattle.std.specs.Prelude.{ℕ, List, map, flat_map, ◌≡◌}
 use Rattle.std.proofs.Common.{◌∙◌, ap}
 use Rattle.std.proofs.lemmas.List.Folds.{flat_map-map}
 use Rattle.css_rules.specs.declared.sheet.Declaration.{Declaration}
@@ -12,9 +12,16 @@ use Rattle.css_rules.specs.Contexts.{LayerPath, Context, outside, under_list}
 use Rattle.css_rules.specs.ItemFold.{Steps, folded, folded-Plain, folded-Style}
 use Rattle.css_rules.specs.Runs.{BareDeclaration, bare_declaration}
 
--- one thing that a sheet says: a declaration, or that it mentions a layer
+-- a rule that is passed on as text, such as `@font-face`: the name of its at-keyword, and the texts of its prelude and of its block
+pub record BarePassed : Type 0 where
+  pub keyword : List ℕ
+  pub prelude : List ℕ
+  pub block : List ℕ
+
+-- one thing that a sheet says: a declaration, a rule that is passed on, or that it mentions a layer
 pub data Statement : Type 0 where
   Declares : Context → BareDeclaration → Statement
+  Passes : Context → BarePassed → Statement
   Mentions : Context → LayerPath → Statement
 
 -- what an item says inside what is round it
