@@ -119,8 +119,8 @@ ordered mentions = record {
   differing = λ before a b x y i j at_x at_y h.
       differ-from mentions [] before a b x y
       (let x_is = first-is mentions (before ++ x ∷ []) i at_x in
-       let y_is = first-is mentions (before ++ y ∷ []) j at_y in
-       omega arith);
+      let y_is = first-is mentions (before ++ y ∷ []) j at_y in
+      omega arith);
   apart = λ before x y i differ at_x at_y.
       let one : at_x.stands.0 ≡ at_y.stands.0 = some-same (sym at_x.stands.1 ∙ at_y.stands.1) in
       let both : is_mention at_x.stands.0 (before ++ y ∷ []) ≡ true = ap (λ m. is_mention m (before ++ y ∷ [])) one ∙ at_y.stands.2 in

@@ -1,8 +1,6 @@
 mod Parts
 mod Says
 mod Loads
-mod Fronts
-mod Printing
 mod Plain
 mod TextFaults
 mod OneFinding

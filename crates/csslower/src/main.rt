@@ -8,7 +8,6 @@ mod judge;
 mod laws;
 mod load;
 mod one_file;
-mod print;
 mod put_text;
 mod read_text;
 mod refuse;

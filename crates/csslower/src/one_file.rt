@@ -5,10 +5,10 @@ ghost use Rattle.cascade_spec.specs.Readings.{KeepsWinners};
 ghost use Rattle.csslower.specs.Findings.{IsAccepted, IsReadable, is_unbuilt};
 ghost use Rattle.csslower.specs.Private.TextFaults.{IsReadingFault, IsTextFault, IsWithin};
 
-use crate::print::print;
 use crate::read_text::{text_components, text_sheet};
 use crate::text_fault::TextFault;
 use cascade_spec::Code;
+use css_print::print;
 use css_tokens::List;
 use std::alloc::Global;
 use std::mem;

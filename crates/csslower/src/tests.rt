@@ -1,5 +1,4 @@
 mod examples;
-mod nested;
 mod rows;
 
 use crate::gate::NoGate;

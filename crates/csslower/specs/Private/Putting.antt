@@ -15,11 +15,6 @@ Writes text before now (Usage kind) = ⊥
 Writes text before now ReadFault = ⊥
 Writes text before now (Limit kind) = ⊥
 
--- does a text hold a byte?
-abbrev pub holds_bytes : List ℕ → Bool
-holds_bytes [] = false
-holds_bytes (byte ∷ bytes) = true
-
 -- A text was put under a name up to this rest: all other names keep what they hold, and a name that is held stays so.
 pub record PutsBut (name text rest : List ℕ) (before now : Names) : Type 0 where
   pub others : (other : List ℕ) → other ≢ name → now other ≡ before other

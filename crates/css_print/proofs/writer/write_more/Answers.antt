@@ -1,0 +1,27 @@
+use Rattle.std.proofs.Common.{List, ℕ, ◌++◌}
+use Rattle.std.specs.Prelude.{codes}
+use Rattle.css_rules.specs.declared.sheet.Declaration.{Declaration}
+use Rattle.css_rules.specs.SheetTexts.{declaration_text}
+use Rattle.css_print.proofs.Fronts.{on_err, front_none, front_second, front_item}
+use Rattle.css_print.proofs.writer.write_more.Goals as goal
+
+abbrev text : Declaration → List ℕ
+text d = codes ";" ++ declaration_text d
+
+pub returns-in_err-extend_from_slice-clause-err : goal.returns-in_err-extend_from_slice-clause-err
+returns-in_err-extend_from_slice-clause-err c =
+    let loop = c.loop-declaration in
+    let d = c.declaration-item.result in
+    let new = c.extend_from_slice.new.self in
+    on_err c.from_residual.result
+    (front_item text c.args.declarations.now loop.declaration-index d c.loop-declaration-test.true c.declaration-item.is c.args.out.now loop.out new loop.invariant
+    (front_none loop.out new (text d) c.in_err-extend_from_slice.ensures.err))
+
+pub returns-in_err-write_declaration-clause-err : goal.returns-in_err-write_declaration-clause-err
+returns-in_err-write_declaration-clause-err c =
+    let loop = c.loop-declaration in
+    let d = c.declaration-item.result in
+    let new = c.write_declaration.new.out in
+    on_err c.from_residual-in_err-write_declaration.result
+    (front_item text c.args.declarations.now loop.declaration-index d c.loop-declaration-test.true c.declaration-item.is c.args.out.now loop.out new loop.invariant
+    (front_second loop.out c.extend_from_slice.new.self new (codes ";") (declaration_text d) c.in_ok-extend_from_slice.ensures.ok c.in_err-write_declaration.ensures.err))

@@ -1,0 +1,2 @@
+-- What the clauses of private functions alone cite. A reader need not believe it.
+pub mod Printed

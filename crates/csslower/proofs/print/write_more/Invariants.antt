@@ -1,6 +1,0 @@
-use Rattle.std.proofs.Common.{◌≡◌, ◌++◌, take}
-use Rattle.css_rules.specs.SheetTexts.{more_declarations}
-use Rattle.csslower.proofs.print.write_more.Given as goal
-
-abbrev pub invariant-loop-declaration : goal.invariant-loop-declaration
-invariant-loop-declaration l = l.out ≡ l.initial.out ++ more_declarations (take l.declaration-index l.declarations)
