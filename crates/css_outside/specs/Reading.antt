@@ -29,6 +29,12 @@ IfFailed (Ok found) P = Unit {0}
 IfFailed (Err Failed) P = P
 IfFailed (Err Memory) P = Unit {0}
 
+-- a fact where the answer is not that the read failed
+abbrev pub UnlessFailed : Result (Option (List ℕ)) FilesFault → Type 0 → Type 0
+UnlessFailed (Ok found) P = P
+UnlessFailed (Err Failed) P = Unit {0}
+UnlessFailed (Err Memory) P = P
+
 -- the read failed exactly where this is so; only want of memory may come instead
 abbrev pub FailsWhere : Bool → Result (Option (List ℕ)) FilesFault → Type 0
 FailsWhere fails (Ok found) = fails ≡ false

@@ -38,7 +38,8 @@ pub trait Outbox {
 
     /// Adds bytes from the front of a piece under a name that is ready, and answers how many it took. The first put to
     /// a name that is not held starts it empty. Takes no memory. A put that fails, or takes nothing of a piece that is
-    /// not empty, raises the count of faults of its name, which is the one for `!` or the one for all other names.
+    /// not empty, raises the count of faults of its name, which is the one for `!` or the one for all other names. No other
+    /// put raises a count.
     fn put(&mut self, name: &str, piece: &[u8]) -> Result<usize, PutFailed>
         requires { IsReady (ready self.old) name.now }
         ensures ready { ready self.new ≡ ready self.old }
@@ -50,5 +51,7 @@ pub trait Outbox {
         ensures own_messages { name.now ≢ message → message_faults self.new ≡ message_faults self.old }
         ensures own_others { name.now ≡ message → faults self.new ≡ faults self.old }
         ensures message_cause { IsStuck piece.now result → name.now ≡ message → Rose (message_faults self.old) (message_faults self.new) }
-        ensures cause { IsStuck piece.now result → name.now ≢ message → Rose (faults self.old) (faults self.new) };
+        ensures cause { IsStuck piece.now result → name.now ≢ message → Rose (faults self.old) (faults self.new) }
+        ensures no_message_cause { (IsStuck piece.now result → ⊥) → message_faults self.new ≡ message_faults self.old }
+        ensures no_cause { (IsStuck piece.now result → ⊥) → faults self.new ≡ faults self.old };
 }

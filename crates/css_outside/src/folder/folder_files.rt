@@ -1,6 +1,6 @@
 ghost use Rattle.std.specs.Prelude.{◌≡◌, ◌≤◌, None, IfOk, length};
 ghost use Rattle.css_outside.specs.Counts.{Rose};
-ghost use Rattle.css_outside.specs.Reading.{IfFailed};
+ghost use Rattle.css_outside.specs.Reading.{IfFailed, UnlessFailed};
 
 use crate::{Files, FilesFault};
 use css_tokens::List;
@@ -29,6 +29,7 @@ impl<R: rt::Files> FolderFiles<R> {
         ensures none { IfOk result (λ found. found ≡ None) }
         ensures count { self.old.faults ≤ self.new.faults }
         ensures cause { IfFailed result (Rose self.old.faults self.new.faults) }
+        ensures no_cause { UnlessFailed result (self.new.faults ≡ self.old.faults) }
     {
         match error.kind() {
             ErrorKind::NotFound => Ok(None),

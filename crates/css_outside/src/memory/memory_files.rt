@@ -52,7 +52,7 @@ impl<'a> Files for MemoryFiles<'a> {
     ghost use Rattle.std.specs.Prelude.{◌≤◌, IfSome};
     ghost use Rattle.css_outside.specs.Calls.{next_call, stands_in, reads_of, failing_reads};
     ghost use Rattle.css_outside.specs.Counts.{Rose};
-    ghost use Rattle.css_outside.specs.Reading.{ReadsFirst, HasAtMost, asked_after, IfFailed, FailsWhere};
+    ghost use Rattle.css_outside.specs.Reading.{ReadsFirst, HasAtMost, asked_after, IfFailed, UnlessFailed, FailsWhere};
 
     ghost told = { λ all. ⟦<SureFiles<'a> as Files>⟧.told all.files };
 
@@ -67,6 +67,7 @@ impl<'a> Files for MemoryFiles<'a> {
         ensures asked { IfSome (⟦<MemoryFiles<'a> as Files>⟧.told self.old) (λ _. ⟦<MemoryFiles<'a> as Files>⟧.asked self.new ≡ asked_after (⟦<MemoryFiles<'a> as Files>⟧.asked self.old) path.now result) }
         ensures count { ⟦<MemoryFiles<'a> as Files>⟧.faults self.old ≤ ⟦<MemoryFiles<'a> as Files>⟧.faults self.new }
         ensures cause { IfFailed result (Rose (⟦<MemoryFiles<'a> as Files>⟧.faults self.old) (⟦<MemoryFiles<'a> as Files>⟧.faults self.new)) }
+        ensures no_cause { UnlessFailed result (⟦<MemoryFiles<'a> as Files>⟧.faults self.new ≡ ⟦<MemoryFiles<'a> as Files>⟧.faults self.old) }
         ensures failing { FailsWhere (stands_in (next_call (reads_of self.old)) (failing_reads self.old)) result }
         ensures reads { reads_of self.new ≡ next_call (reads_of self.old) }
         ensures failing_stays { failing_reads self.new ≡ failing_reads self.old }

@@ -102,6 +102,8 @@ impl Outbox for MemoryOutbox {
         ensures own_others { name.now ≡ message → ⟦<MemoryOutbox as Outbox>⟧.faults self.new ≡ ⟦<MemoryOutbox as Outbox>⟧.faults self.old }
         ensures message_cause { IsStuck piece.now result → name.now ≡ message → Rose (⟦<MemoryOutbox as Outbox>⟧.message_faults self.old) (⟦<MemoryOutbox as Outbox>⟧.message_faults self.new) }
         ensures cause { IsStuck piece.now result → name.now ≢ message → Rose (⟦<MemoryOutbox as Outbox>⟧.faults self.old) (⟦<MemoryOutbox as Outbox>⟧.faults self.new) }
+        ensures no_message_cause { (IsStuck piece.now result → ⊥) → ⟦<MemoryOutbox as Outbox>⟧.message_faults self.new ≡ ⟦<MemoryOutbox as Outbox>⟧.message_faults self.old }
+        ensures no_cause { (IsStuck piece.now result → ⊥) → ⟦<MemoryOutbox as Outbox>⟧.faults self.new ≡ ⟦<MemoryOutbox as Outbox>⟧.faults self.old }
         ensures answer { result ≡ put_answer self.old name.now piece.now }
         ensures puts { puts_of self.new ≡ next_call (puts_of self.old) }
         ensures failing_stays { failing_puts self.new ≡ failing_puts self.old }

@@ -48,7 +48,7 @@ impl<'a> SureFiles<'a> {
 impl<'a> Files for SureFiles<'a> {
     ghost use Rattle.std.specs.Prelude.{◌≤◌, IfSome};
     ghost use Rattle.css_outside.specs.Counts.{Rose};
-    ghost use Rattle.css_outside.specs.Reading.{ReadsFirst, HasAtMost, asked_after, IfFailed};
+    ghost use Rattle.css_outside.specs.Reading.{ReadsFirst, HasAtMost, asked_after, IfFailed, UnlessFailed};
 
     ghost told = { λ all. Some (named all.files) };
 
@@ -63,6 +63,7 @@ impl<'a> Files for SureFiles<'a> {
         ensures asked { IfSome (⟦<SureFiles<'a> as Files>⟧.told self.old) (λ _. ⟦<SureFiles<'a> as Files>⟧.asked self.new ≡ asked_after (⟦<SureFiles<'a> as Files>⟧.asked self.old) path.now result) }
         ensures count { ⟦<SureFiles<'a> as Files>⟧.faults self.old ≤ ⟦<SureFiles<'a> as Files>⟧.faults self.new }
         ensures cause { IfFailed result (Rose (⟦<SureFiles<'a> as Files>⟧.faults self.old) (⟦<SureFiles<'a> as Files>⟧.faults self.new)) }
+        ensures no_cause { UnlessFailed result (⟦<SureFiles<'a> as Files>⟧.faults self.new ≡ ⟦<SureFiles<'a> as Files>⟧.faults self.old) }
         ensures sure { IfFailed result ⊥ }
     {
         let answer = match find(&self.files, path) {
