@@ -1,5 +1,5 @@
 -- Over all words and files there is one answer that stands first.
-use Rattle.std.proofs.Common.{◌≡◌, ℕ, ◌+◌, ◌<◌, List, [], ◌∷◌, Option, Some, None, MatchOption, IsTrue, Bool, true, false, length, map, refl, ap, sym, ◌∙◌, ◌⊎◌, inl, inr, subst, arith, nat_lt}
+use Rattle.std.proofs.Common.{◌≡◌, ℕ, ◌+◌, ◌<◌, List, [], ◌∷◌, Option, Some, None, MatchOption, is_none, unwrap_or, if◌then◌else◌, IsTrue, Bool, true, false, length, map, refl, ap, sym, ◌∙◌, ◌⊎◌, inl, inr, subst, arith, nat_lt}
 use Rattle.std.specs.List.{position}
 use Rattle.css_outside.specs.Names.{Names}
 use Rattle.css_tokens.specs.declared.component.Component.{Component}
@@ -17,7 +17,7 @@ use Rattle.cascade_spec.specs.declared.finding.Code.{Code}
 use Rattle.cascade_spec.specs.declared.finding.Code.TheVariants.{Syntax, Depth, Missing, Unbuilt}
 use Rattle.cascade_spec.specs.declared.finding.Finding.{Finding}
 use Rattle.cascade_spec.specs.declared.finding.LimitKind.TheVariants.{L2}
-use Rattle.csslower.specs.Answers.{IsLong, IsFirst, IsFine, IsFirstOfFile, First, HasFirst}
+use Rattle.csslower.specs.Answers.{IsLong, IsFirst, IsFine, IsFirstOfSources, First, HasFirst}
 use Rattle.csslower.specs.Findings.{is_unbuilt, HasTokens, HasComponents, IsReadable, IsAccepted, HasFinding, HasReadingFinding}
 use Rattle.csslower.specs.Words.{entry_of, is_scoped}
 use Rattle.csslower.specs.declared.status.Status.{Status}
@@ -58,6 +58,38 @@ some_refusal (r ∷ rs) = inr (named (first_refusal rs))
 
 abbrev HasSomeFinding : List ℕ → Type 0
 HasSomeFinding bytes = (code : Code) × (offset : ℕ) × HasReadingFinding bytes code offset
+
+-- the answer that stands first about the sources, as it is about the entry's file
+abbrev IsFirstOfFile : List ℕ → Option (List ℕ) → Status → Type 0
+IsFirstOfFile path found (Limit L2) = IsLong found
+IsFirstOfFile path found (Refused finding) = (IsLong found → ⊥) × IsFirst path found finding
+IsFirstOfFile path found Done = (IsLong found → ⊥) × IsFine path found
+IsFirstOfFile path found (Usage kind) = ⊥
+IsFirstOfFile path found ReadFault = ⊥
+IsFirstOfFile path found WriteFault = ⊥
+IsFirstOfFile path found Memory = ⊥
+
+of_entry_file : (path : List ℕ) (files : Names) (answer : Status) → IsFirstOfFile path (files path) answer → IsFirstOfSources path files answer
+of_entry_file path files (Limit L2) h = h
+of_entry_file path files (Refused finding) h = h
+of_entry_file path files Done h = h
+of_entry_file path files (Usage kind) h = h
+of_entry_file path files ReadFault h = h
+of_entry_file path files WriteFault h = h
+of_entry_file path files Memory h = h
+
+of_sources : (path : List ℕ) (files : Names) (answer : Status) → IsFirstOfSources path files answer → IsFirstOfFile path (files path) answer
+of_sources path files (Limit L2) h = h
+of_sources path files (Refused finding) h = h
+of_sources path files Done h = h
+of_sources path files (Usage kind) h = h
+of_sources path files ReadFault h = h
+of_sources path files WriteFault h = h
+of_sources path files Memory h = h
+
+-- `First` of an entry, or of words that name none
+abbrev pub FirstOfEntry : Option (List ℕ) → Names → Status → Type 0
+FirstOfEntry entry files answer = MatchOption (if is_none entry then Some Words else None) (IsFirstOfSources (unwrap_or entry []) files answer) (λ kind. answer ≡ Usage kind)
 
 module _ (laws : AnswerLaws) where
   refused_by : (bytes : List ℕ) (cs : List Component) → HasComponents bytes cs → (r : Refusal) → first_refusal (sheet_refusals cs) ≡ Some r → HasSomeFinding bytes
@@ -140,9 +172,9 @@ module _ (laws : AnswerLaws) where
   some_first : (words : List (List ℕ)) (files : Names) → (answer : Status) × First words files answer
   some_first words files = of_entry (entry_of words)
     where
-      of_entry : (entry : Option (List ℕ)) → (answer : Status) × MatchOption entry (answer ≡ Usage Words) (λ path. IsFirstOfFile path (files path) answer)
+      of_entry : (entry : Option (List ℕ)) → (answer : Status) × FirstOfEntry entry files answer
       of_entry None = (Usage Words, refl)
-      of_entry (Some path) = of_file path (files path)
+      of_entry (Some path) = let some = of_file path (files path) in (some.0, of_entry_file path files some.0 some.1)
 
   same_finding : (a b : Finding) → a.place.file ≡ b.place.file → a.place.offset ≡ b.place.offset → a.code ≡ b.code → a ≡ b
   same_finding a b file offset code = made a.place.file b.place.file a.place.offset b.place.offset a.code b.code file offset code
@@ -194,9 +226,9 @@ module _ (laws : AnswerLaws) where
   first_one : (words : List (List ℕ)) (files : Names) (a b : Status) → First words files a → First words files b → a ≡ b
   first_one words files a b p q = of_entry (entry_of words) p q
     where
-      of_entry : (entry : Option (List ℕ)) → MatchOption entry (a ≡ Usage Words) (λ path. IsFirstOfFile path (files path) a) → MatchOption entry (b ≡ Usage Words) (λ path. IsFirstOfFile path (files path) b) → a ≡ b
+      of_entry : (entry : Option (List ℕ)) → FirstOfEntry entry files a → FirstOfEntry entry files b → a ≡ b
       of_entry None x y = x ∙ sym y
-      of_entry (Some path) x y = of_file_one path (files path) a b x y
+      of_entry (Some path) x y = of_file_one path (files path) a b (of_sources path files a x) (of_sources path files b y)
 
   pub has_first : (words : List (List ℕ)) (files : Names) → HasFirst words files
   has_first words files = record { some = some_first words files; one = first_one words files }

@@ -5,3 +5,5 @@ mod Plain
 mod TextFaults
 mod OneFinding
 mod FirstAnswers
+mod Alike
+mod Usages

@@ -33,8 +33,3 @@ whole most bytes (Some text) e few =
 pub loaded : (told : Option Names) (path : List ℕ) (found : Option (List ℕ)) (load : Load) → IfSome told (λ files. found ≡ first_bytes files path 4194305) → ((file : Option (List ℕ)) → found ≡ option_map (take 4194305) file → IsLoaded file load) → IfSome told (λ files. IsLoaded (files path) load)
 loaded None path found load read sorts = tt
 loaded (Some files) path found load read sorts = sorts (files path) read
-
--- what is said of the bytes that were read holds of the file
-pub of_whole : (told : Option Names) (path source bytes : List ℕ) (P : Option (List ℕ) → Type 0) → bytes ≡ source → IfSome told (λ files. files path ≡ Some source) → P (Some bytes) → IfSome told (λ files. P (files path))
-of_whole None path source bytes P same read holds = tt
-of_whole (Some files) path source bytes P same read holds = subst P (ap (λ (t : List ℕ). Some t) same ∙ sym read) holds

@@ -1,14 +1,14 @@
 -- Which answer a file gets.
-use Rattle.std.specs.Prelude.{◌≡◌, ℕ, ◌<◌, List, length, IsTrue, false, Option, Some, None, IfSome, IsSome, MatchOption}
+use Rattle.std.specs.Prelude.{◌≡◌, ◌↔◌, ℕ, ◌<◌, List, length, IsTrue, false, Option, Some, None, MatchOption}
 use Rattle.cascade_spec.specs.declared.finding.Code.{Code}
 use Rattle.cascade_spec.specs.declared.finding.Code.TheVariants.{Missing, Unbuilt}
 use Rattle.cascade_spec.specs.declared.finding.Finding.{Finding}
 use Rattle.cascade_spec.specs.declared.finding.LimitKind.TheVariants.{L2}
 use Rattle.css_outside.specs.Names.{Names}
-use Rattle.csslower.specs.Words.{entry_of, is_scoped}
+use Rattle.csslower.specs.Words.{usage_of, entry_path, is_scoped}
 use Rattle.csslower.specs.Findings.{HasFinding, IsAccepted}
 use Rattle.csslower.specs.declared.status.Status.{Status}
-use Rattle.csslower.specs.declared.status.WordKind.TheVariants.{Words}
+use Rattle.csslower.specs.declared.status.WordKind.{WordKind}
 use Rattle.csslower.specs.declared.status.Status.TheVariants.{Done, Refused, Usage, ReadFault, WriteFault, Memory, Limit}
 
 -- the number with which the program ends
@@ -20,10 +20,6 @@ number_of ReadFault = 3
 number_of WriteFault = 4
 number_of Memory = 5
 number_of (Limit kind) = 6
-
--- Where the words are a command and the files are told: a fact of the entry's path, and of the file's bytes if it is there.
-abbrev pub ForEntry : List (List ℕ) → Option Names → (List ℕ → Option (List ℕ) → Type 0) → Type 0
-ForEntry words told P = IfSome (entry_of words) (λ path. IfSome told (λ files. P path (files path)))
 
 -- the file is there, and longer than 4 MiB
 abbrev pub IsLong : Option (List ℕ) → Type 0
@@ -45,63 +41,57 @@ abbrev pub IsFine : List ℕ → Option (List ℕ) → Type 0
 IsFine path None = ⊥
 IsFine path (Some bytes) = (is_scoped path ≡ false) × IsAccepted bytes
 
--- the answer is that the words are no command exactly where they are none
+-- the answer is that the words are no command, and why, exactly where they are none for this reason
 abbrev pub UsageFits : List (List ℕ) → Status → Type 0
-UsageFits words (Usage kind) = entry_of words ≡ None
-UsageFits words Done = IsSome (entry_of words)
-UsageFits words (Refused finding) = IsSome (entry_of words)
-UsageFits words ReadFault = IsSome (entry_of words)
-UsageFits words WriteFault = IsSome (entry_of words)
-UsageFits words Memory = IsSome (entry_of words)
-UsageFits words (Limit kind) = IsSome (entry_of words)
+UsageFits words answer = (kind : WordKind) → (answer ≡ Usage kind) ↔ (usage_of words ≡ Some kind)
 
--- the answer is the limit where the file is too long, and no answer that judges the file where it is
-abbrev pub LimitFits : Option (List ℕ) → Status → Type 0
-LimitFits found (Limit L2) = IsLong found
-LimitFits found Done = IsLong found → ⊥
-LimitFits found (Refused finding) = IsLong found → ⊥
-LimitFits found WriteFault = IsLong found → ⊥
-LimitFits found (Usage kind) = Unit {0}
-LimitFits found ReadFault = Unit {0}
-LimitFits found Memory = Unit {0}
+-- the answer is the limit where the entry's file is too long, and no answer that judges the sources where it is
+abbrev pub LimitFits : List ℕ → Names → Status → Type 0
+LimitFits entry sources (Limit L2) = IsLong (sources entry)
+LimitFits entry sources Done = IsLong (sources entry) → ⊥
+LimitFits entry sources (Refused finding) = IsLong (sources entry) → ⊥
+LimitFits entry sources WriteFault = IsLong (sources entry) → ⊥
+LimitFits entry sources (Usage kind) = Unit {0}
+LimitFits entry sources ReadFault = Unit {0}
+LimitFits entry sources Memory = Unit {0}
 
--- a refusal names what stands first against the file
-abbrev pub RefusalFits : List ℕ → Option (List ℕ) → Status → Type 0
-RefusalFits path found (Refused finding) = IsFirst path found finding
-RefusalFits path found Done = Unit {0}
-RefusalFits path found (Usage kind) = Unit {0}
-RefusalFits path found ReadFault = Unit {0}
-RefusalFits path found WriteFault = Unit {0}
-RefusalFits path found Memory = Unit {0}
-RefusalFits path found (Limit kind) = Unit {0}
+-- a refusal names what stands first against the sources
+abbrev pub RefusalFits : List ℕ → Names → Status → Type 0
+RefusalFits entry sources (Refused finding) = IsFirst entry (sources entry) finding
+RefusalFits entry sources Done = Unit {0}
+RefusalFits entry sources (Usage kind) = Unit {0}
+RefusalFits entry sources ReadFault = Unit {0}
+RefusalFits entry sources WriteFault = Unit {0}
+RefusalFits entry sources Memory = Unit {0}
+RefusalFits entry sources (Limit kind) = Unit {0}
 
--- a text is written only where nothing stands against the file
-abbrev pub WritingFits : List ℕ → Option (List ℕ) → Status → Type 0
-WritingFits path found Done = IsFine path found
-WritingFits path found WriteFault = IsFine path found
-WritingFits path found (Refused finding) = Unit {0}
-WritingFits path found (Usage kind) = Unit {0}
-WritingFits path found ReadFault = Unit {0}
-WritingFits path found Memory = Unit {0}
-WritingFits path found (Limit kind) = Unit {0}
+-- a text is written only where nothing stands against the sources
+abbrev pub WritingFits : List ℕ → Names → Status → Type 0
+WritingFits entry sources Done = IsFine entry (sources entry)
+WritingFits entry sources WriteFault = IsFine entry (sources entry)
+WritingFits entry sources (Refused finding) = Unit {0}
+WritingFits entry sources (Usage kind) = Unit {0}
+WritingFits entry sources ReadFault = Unit {0}
+WritingFits entry sources Memory = Unit {0}
+WritingFits entry sources (Limit kind) = Unit {0}
 
--- This answer stands first of those about the file: that it is too long, else the finding that stands first against it, else
--- `Done`, which says that nothing stands against it.
-abbrev pub IsFirstOfFile : List ℕ → Option (List ℕ) → Status → Type 0
-IsFirstOfFile path found (Limit L2) = IsLong found
-IsFirstOfFile path found (Refused finding) = (IsLong found → ⊥) × IsFirst path found finding
-IsFirstOfFile path found Done = (IsLong found → ⊥) × IsFine path found
-IsFirstOfFile path found (Usage kind) = ⊥
-IsFirstOfFile path found ReadFault = ⊥
-IsFirstOfFile path found WriteFault = ⊥
-IsFirstOfFile path found Memory = ⊥
+-- This answer stands first of those about the sources: that the entry's file is too long, else the finding that stands first
+-- against it, else `Done`, which says that nothing stands against it.
+abbrev pub IsFirstOfSources : List ℕ → Names → Status → Type 0
+IsFirstOfSources entry sources (Limit L2) = IsLong (sources entry)
+IsFirstOfSources entry sources (Refused finding) = (IsLong (sources entry) → ⊥) × IsFirst entry (sources entry) finding
+IsFirstOfSources entry sources Done = (IsLong (sources entry) → ⊥) × IsFine entry (sources entry)
+IsFirstOfSources entry sources (Usage kind) = ⊥
+IsFirstOfSources entry sources ReadFault = ⊥
+IsFirstOfSources entry sources WriteFault = ⊥
+IsFirstOfSources entry sources Memory = ⊥
 
--- `First` over the words and the told files: that the words are no command, else the first of the answers about the file
--- that they name. `Done` says that none stands.
+-- `First` over the words and their sources: what is wrong with the words, where they are no command, else the first of the
+-- answers about the sources. `Done` says that none stands.
 abbrev pub First : List (List ℕ) → Names → Status → Type 0
-First words files answer = MatchOption (entry_of words) (answer ≡ Usage Words) (λ path. IsFirstOfFile path (files path) answer)
+First words sources answer = MatchOption (usage_of words) (IsFirstOfSources (entry_path words) sources answer) (λ kind. answer ≡ Usage kind)
 
--- over these words and files an answer stands first, and no more than one
-pub record HasFirst (words : List (List ℕ)) (files : Names) : Type 0 where
-  pub some : (answer : Status) × First words files answer
-  pub one : (a b : Status) → First words files a → First words files b → a ≡ b
+-- over these words and sources an answer stands first, and no more than one
+pub record HasFirst (words : List (List ℕ)) (sources : Names) : Type 0 where
+  pub some : (answer : Status) × First words sources answer
+  pub one : (a b : Status) → First words sources a → First words sources b → a ≡ b

@@ -4,7 +4,6 @@ use Rattle.cascade_spec.specs.declared.finding.Finding.{Finding}
 use Rattle.css_outside.specs.Names.{Names, bytes_under}
 use Rattle.css_outside.specs.Putting.{message}
 use Rattle.csslower.specs.Lines.{refusal_line, usage_line, unread_line, unwritten_line, memory_line, limit_line}
-use Rattle.csslower.specs.Writing.{standard}
 use Rattle.csslower.specs.declared.status.Status.{Status}
 use Rattle.csslower.specs.declared.status.Status.TheVariants.{Done, Refused, Usage, ReadFault, WriteFault, Memory, Limit}
 
@@ -27,18 +26,18 @@ pub record SaysOrNot (line : List ℕ) (failed : Type 0) (before now : Names) : 
   pub whole : (failed → ⊥) → GotLine line before now ⊎ (bytes_under now message ≡ bytes_under before message)
 
 -- Standard error got the line of a refusal, as above. It counts lines and columns in a text: the file's, where that is told.
-pub record SaysRefusal (path : List ℕ) (source : Option (List ℕ)) (finding : Finding) (failed : Type 0) (before now : Names) : Type 0 where
+pub record SaysRefusal (path : List ℕ) (sources : Option Names) (finding : Finding) (failed : Type 0) (before now : Names) : Type 0 where
   pub text : List ℕ
-  pub of_file : IfSome source (λ told. text ≡ told)
+  pub of_file : IfSome sources (λ files. text ≡ bytes_under files path)
   pub said : SaysOrNot (refusal_line path text finding) failed before now
 
 -- Standard error got nothing where the text is written, and the line of the answer where it is not. That of a refusal may be
--- left out.
-abbrev pub Said : List ℕ → Option (List ℕ) → Type 0 → Status → Names → Names → Type 0
-Said path source failed Done before now = now message ≡ before message
-Said path source failed (Refused finding) before now = SaysRefusal path source finding failed before now
-Said path source failed (Usage kind) before now = Says usage_line failed before now
-Said path source failed ReadFault before now = Says (unread_line path) failed before now
-Said path source failed WriteFault before now = Says (unwritten_line standard) failed before now
-Said path source failed Memory before now = Says memory_line failed before now
-Said path source failed (Limit kind) before now = Says limit_line failed before now
+-- left out. The output of the text has this name, and the entry this path.
+abbrev pub Said : List ℕ → List ℕ → Option Names → Type 0 → Status → Names → Names → Type 0
+Said name entry sources failed Done before now = now message ≡ before message
+Said name entry sources failed (Refused finding) before now = SaysRefusal entry sources finding failed before now
+Said name entry sources failed (Usage kind) before now = Says usage_line failed before now
+Said name entry sources failed ReadFault before now = Says (unread_line entry) failed before now
+Said name entry sources failed WriteFault before now = Says (unwritten_line name) failed before now
+Said name entry sources failed Memory before now = Says memory_line failed before now
+Said name entry sources failed (Limit kind) before now = Says limit_line failed before now

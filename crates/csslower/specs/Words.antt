@@ -1,7 +1,11 @@
--- Which words are a command.
-use Rattle.std.specs.Prelude.{ℕ, Bool, ◌||◌, List, [], ◌∷◌, Option, Some, None, if◌then◌else◌, codes, nat_eq, length}
+-- Which words are a command, and what they ask for.
+use Rattle.std.specs.Prelude.{ℕ, Bool, ◌||◌, List, [], ◌∷◌, Option, Some, None, is_none, unwrap_or, if◌then◌else◌, codes, nat_eq, length}
 use Rattle.std.specs.List.{list_any, starts_with, ends_with}
 use Rattle.std.specs.Str.{bytes_eq}
+use Rattle.css_outside.specs.Names.{Names}
+use Rattle.csslower.specs.Writing.{standard}
+use Rattle.csslower.specs.declared.status.WordKind.{WordKind}
+use Rattle.csslower.specs.declared.status.WordKind.TheVariants.{Words}
 
 -- does the word hold this byte?
 abbrev pub holds : ℕ → List ℕ → Bool
@@ -20,6 +24,22 @@ abbrev pub entry_of : List (List ℕ) → Option (List ℕ)
 entry_of [] = None
 entry_of (word ∷ []) = if is_no_entry word then None else Some word
 entry_of (word ∷ next ∷ others) = None
+
+-- what is wrong with the words, where they are no command
+abbrev pub usage_of : List (List ℕ) → Option WordKind
+usage_of words = if is_none (entry_of words) then Some Words else None
+
+-- the path of the entry; it is empty where the words are no command
+abbrev pub entry_path : List (List ℕ) → List ℕ
+entry_path words = unwrap_or (entry_of words) []
+
+-- the sources: the files, where they are told
+abbrev pub sources_of : List (List ℕ) → Option Names → Option Names
+sources_of words told = told
+
+-- the name of the output that gets the stylesheet: standard output
+abbrev pub stylesheet_name : List (List ℕ) → List ℕ
+stylesheet_name words = standard
 
 -- is this the path of a file whose names are scoped?
 abbrev pub is_scoped : List ℕ → Bool

@@ -11,18 +11,18 @@ standard = codes "-"
 abbrev pub SameOutputs : Names → Names → Type 0
 SameOutputs before now = (name : List ℕ) → name ≢ message → now name ≡ before name
 
--- Standard output is held and got the text whole, and nothing else has changed.
-pub record WroteAll (text : List ℕ) (before now : Names) : Type 0 where
-  pub puts : Puts standard text before now
-  pub held : IsSome (now standard)
+-- The output of a name is held and got the text whole, and nothing else has changed.
+pub record WroteAll (name text : List ℕ) (before now : Names) : Type 0 where
+  pub puts : Puts name text before now
+  pub held : IsSome (now name)
 
--- Standard output got the text up to this rest, and nothing else but standard error has changed.
-pub record WroteBut (text rest : List ℕ) (before now : Names) : Type 0 where
-  pub others : (name : List ℕ) → name ≢ standard → name ≢ message → now name ≡ before name
-  pub grown : bytes_under now standard ++ rest ≡ bytes_under before standard ++ text
+-- The output of a name got the text up to this rest, and nothing else but standard error has changed.
+pub record WroteBut (name text rest : List ℕ) (before now : Names) : Type 0 where
+  pub others : (other : List ℕ) → other ≢ name → other ≢ message → now other ≡ before other
+  pub grown : bytes_under now name ++ rest ≡ bytes_under before name ++ text
   pub within : length rest ≤ length text
-  pub stays : IsSome (before standard) → IsSome (now standard)
+  pub stays : IsSome (before name) → IsSome (now name)
 
--- a part of the text was put to standard output from its front, perhaps nothing and perhaps all
-abbrev pub WroteFront : List ℕ → Names → Names → Type 0
-WroteFront text before now = (rest : List ℕ) × WroteBut text rest before now
+-- a part of the text was put to the output of a name from its front, perhaps nothing and perhaps all
+abbrev pub WroteFront : List ℕ → List ℕ → Names → Names → Type 0
+WroteFront name text before now = (rest : List ℕ) × WroteBut name text rest before now

@@ -1,7 +1,8 @@
 ghost use Rattle.std.specs.Prelude.{◌≡◌, ◌≤◌, Some, ℕ, List, Option, length};
 ghost use Rattle.css_outside.specs.Counts.{Rose};
-ghost use Rattle.css_outside.specs.Names.{Told};
-ghost use Rattle.csslower.specs.Answers.{LimitFits, RefusalFits, WritingFits, IsFirstOfFile};
+ghost use Rattle.css_outside.specs.Names.{Names, Told};
+ghost use Rattle.csslower.specs.Answers.{LimitFits, RefusalFits, WritingFits, IsFirstOfSources};
+ghost use Rattle.csslower.specs.Private.Loading.{alike};
 ghost use Rattle.csslower.specs.Private.Stages.{IsOfText, IsOfWriting};
 ghost use Rattle.csslower.specs.Leaving.{Leaves, WinnersFit, ReadyFits};
 ghost use Rattle.csslower.specs.Private.Putting.{Writes};
@@ -25,15 +26,17 @@ use std::alloc::Global;
 pub(crate) fn judge<O: Outbox>(alloc: Global, path: &str, source: &[u8], out: &mut O) -> Status
     requires { length source.now ≤ 4194304 }
     ensures text { IsOfText result }
-    ensures winners { WinnersFit (Some source.now) (O.held out.old) (O.held out.new) result }
-    ensures limit { LimitFits (Some source.now) result }
-    ensures refused { RefusalFits path.now (Some source.now) result }
-    ensures accepted { WritingFits path.now (Some source.now) result }
-    ensures exactly { (Rose (O.faults out.old) (O.faults out.new) → ⊥) → (result ≡ Status.Memory → ⊥) → IsFirstOfFile path.now (Some source.now) result }
+    ensures winners { WinnersFit standard path.now (alike source.now) (O.held out.old) (O.held out.new) result }
+    ensures limit { LimitFits path.now (alike source.now) result }
+    ensures refused { RefusalFits path.now (alike source.now) result }
+    ensures accepted { WritingFits path.now (alike source.now) result }
+    ensures exactly { (Rose (O.faults out.old) (O.faults out.new) → ⊥) → (result ≡ Status.Memory → ⊥) → IsFirstOfSources path.now (alike source.now) result }
     ensures write_fault { result ≡ Status.WriteFault → Rose (O.faults out.old) (O.faults out.new) }
-    ensures held { Leaves (O.held out.old) (O.held out.new) result }
-    ensures ready { ReadyFits (O.ready out.old) (O.ready out.new) result }
-    ensures said { Told (O.held out.old) (O.held out.new) (Said path.now (Some source.now) (Rose (O.message_faults out.old) (O.message_faults out.new)) result) }
+    ensures no_write_fault { (result ≡ Status.WriteFault → ⊥) → O.faults out.new ≡ O.faults out.old }
+    ensures no_message_fault { result ≡ Status.Done → O.message_faults out.new ≡ O.message_faults out.old }
+    ensures held { Leaves standard (O.held out.old) (O.held out.new) result }
+    ensures ready { ReadyFits standard (O.ready out.old) (O.ready out.new) result }
+    ensures said { Told (O.held out.old) (O.held out.new) (Said standard path.now (Some (alike source.now)) (Rose (O.message_faults out.old) (O.message_faults out.new)) result) }
 {
     if is_scoped(path) {
         return refuse(alloc, path, source, finding_at(0, Code::Unbuilt), out);
@@ -61,8 +64,10 @@ pub(crate) fn finding_at(offset: u32, code: Code) -> Finding
 fn write<O: Outbox>(out: &mut O, text: &[u8]) -> Status
     ensures written { Writes text.now (O.held out.old) (O.held out.new) result }
     ensures write_fault { result ≡ Status.WriteFault → Rose (O.faults out.old) (O.faults out.new) }
-    ensures ready { ReadyFits (O.ready out.old) (O.ready out.new) result }
-    ensures said { (path : List ℕ) (source : Option (List ℕ)) → Told (O.held out.old) (O.held out.new) (Said path source (Rose (O.message_faults out.old) (O.message_faults out.new)) result) }
+    ensures no_write_fault { (result ≡ Status.WriteFault → ⊥) → O.faults out.new ≡ O.faults out.old }
+    ensures no_message_fault { result ≡ Status.Done → O.message_faults out.new ≡ O.message_faults out.old }
+    ensures ready { ReadyFits standard (O.ready out.old) (O.ready out.new) result }
+    ensures said { (path : List ℕ) (sources : Option Names) → Told (O.held out.old) (O.held out.new) (Said standard path sources (Rose (O.message_faults out.old) (O.message_faults out.new)) result) }
 {
     match out.make_ready("-") {
         Ok(()) => write_ready(out, text),
@@ -76,8 +81,10 @@ fn write_ready<O: Outbox>(out: &mut O, text: &[u8]) -> Status
     ensures answer { IsOfWriting result }
     ensures written { Writes text.now (O.held out.old) (O.held out.new) result }
     ensures write_fault { result ≡ Status.WriteFault → Rose (O.faults out.old) (O.faults out.new) }
+    ensures no_write_fault { (result ≡ Status.WriteFault → ⊥) → O.faults out.new ≡ O.faults out.old }
+    ensures no_message_fault { result ≡ Status.Done → O.message_faults out.new ≡ O.message_faults out.old }
     ensures ready { O.ready out.new ≡ O.ready out.old }
-    ensures said { (path : List ℕ) (source : Option (List ℕ)) → Told (O.held out.old) (O.held out.new) (Said path source (Rose (O.message_faults out.old) (O.message_faults out.new)) result) }
+    ensures said { (path : List ℕ) (sources : Option Names) → Told (O.held out.old) (O.held out.new) (Said standard path sources (Rose (O.message_faults out.old) (O.message_faults out.new)) result) }
 {
     match put_text(out, "-", text) {
         Ok(()) => Status::Done,

@@ -1,7 +1,7 @@
 ghost use Rattle.std.specs.Prelude.{◌≡◌, ◌≤◌, ℕ, List, Option, IfSome, take};
 ghost use Rattle.std.specs.Option.{option_map};
 ghost use Rattle.css_outside.specs.Counts.{Rose};
-ghost use Rattle.csslower.specs.Private.Loading.{IsLoaded, IsShort, IfFailed, IsOfRead, asked_after};
+ghost use Rattle.csslower.specs.Private.Loading.{IsLoaded, IsShort, IfFailed, UnlessFailed, IsOfRead, asked_after};
 
 use css_outside::{Files, FilesFault};
 use css_tokens::List;
@@ -25,6 +25,7 @@ pub(crate) fn read_whole<F: Files>(alloc: Global, path: &str, files: &mut F) -> 
     ensures asked { IfSome (F.told files.old) (λ _. F.asked files.new ≡ asked_after (F.asked files.old) path.now result) }
     ensures count { F.faults files.old ≤ F.faults files.new }
     ensures cause { IfFailed result (Rose (F.faults files.old) (F.faults files.new)) }
+    ensures no_cause { UnlessFailed result (F.faults files.new ≡ F.faults files.old) }
 {
     match files.read(alloc, path, 4_194_305) {
         Ok(found) => sort(found),

@@ -20,6 +20,8 @@ pub(crate) fn put_text<O: Outbox>(out: &mut O, name: &str, text: &[u8]) -> Resul
     ensures own_others { name.now ≡ message → O.faults out.new ≡ O.faults out.old }
     ensures message_cause { OnErr result (name.now ≡ message → Rose (O.message_faults out.old) (O.message_faults out.new)) }
     ensures cause { OnErr result (name.now ≢ message → Rose (O.faults out.old) (O.faults out.new)) }
+    ensures no_message_cause { OnOk result (O.message_faults out.new ≡ O.message_faults out.old) }
+    ensures no_cause { OnOk result (O.faults out.new ≡ O.faults out.old) }
 {
     let mut rest = text;
     loop {

@@ -1,12 +1,12 @@
-ghost use Rattle.std.specs.Prelude.{◌≡◌, ◌≤◌, ◌∷◌, [], Some, map, length, IfSome};
-ghost use Rattle.std.specs.Option.{option_map, unwrap_or};
+ghost use Rattle.std.specs.Prelude.{◌≡◌, map, IfSome};
 ghost use Rattle.css_outside.specs.Counts.{Rose};
-ghost use Rattle.css_outside.specs.Names.{Names, Told, bytes_under};
-ghost use Rattle.csslower.specs.Answers.{ForEntry, UsageFits, LimitFits, RefusalFits, WritingFits, IsFirstOfFile, First, HasFirst};
+ghost use Rattle.css_outside.specs.Names.{Names, Told};
+ghost use Rattle.csslower.specs.Answers.{UsageFits, LimitFits, RefusalFits, WritingFits, IsFirstOfSources, First, HasFirst};
 ghost use Rattle.csslower.specs.Private.Stages.{IsOfCommand};
 ghost use Rattle.csslower.specs.Leaving.{Leaves, WinnersFit, ReadyFits, AsksFor};
 ghost use Rattle.csslower.specs.Saying.{Said};
-ghost use Rattle.csslower.specs.Words.{entry_of};
+ghost use Rattle.csslower.specs.Words.{entry_path, sources_of, stylesheet_name};
+ghost use Rattle.csslower.specs.Writing.{standard};
 
 use crate::gate::Gate;
 use crate::judge::{finding_at, judge, lack};
@@ -30,18 +30,21 @@ pub fn run<F: Files, O: Outbox, G: Gate + Sync>(
     _gate: &G,
 ) -> Status
     ensures usage { UsageFits (map (λ word. word.now) words.now) result }
-    ensures winners { ForEntry (map (λ word. word.now) words.now) (F.told files.old) (λ _ found. WinnersFit found (O.held out.old) (O.held out.new) result) }
-    ensures limit { ForEntry (map (λ word. word.now) words.now) (F.told files.old) (λ _ found. LimitFits found result) }
-    ensures refused { ForEntry (map (λ word. word.now) words.now) (F.told files.old) (λ path found. RefusalFits path found result) }
-    ensures accepted { ForEntry (map (λ word. word.now) words.now) (F.told files.old) (λ path found. WritingFits path found result) }
-    ensures exactly { (Rose (F.faults files.old) (F.faults files.new) → ⊥) → (Rose (O.faults out.old) (O.faults out.new) → ⊥) → (result ≡ Status.Memory → ⊥) → IfSome (F.told files.old) (λ told. First (map (λ word. word.now) words.now) told result) }
-    ensures one_answer { (told : Names) → HasFirst (map (λ word. word.now) words.now) told }
+    ensures winners { let texts = map (λ word. word.now) words.now in IfSome (sources_of texts (F.told files.old)) (λ sources. WinnersFit (stylesheet_name texts) (entry_path texts) sources (O.held out.old) (O.held out.new) result) }
+    ensures limit { let texts = map (λ word. word.now) words.now in IfSome (sources_of texts (F.told files.old)) (λ sources. LimitFits (entry_path texts) sources result) }
+    ensures refused { let texts = map (λ word. word.now) words.now in IfSome (sources_of texts (F.told files.old)) (λ sources. RefusalFits (entry_path texts) sources result) }
+    ensures accepted { let texts = map (λ word. word.now) words.now in IfSome (sources_of texts (F.told files.old)) (λ sources. WritingFits (entry_path texts) sources result) }
+    ensures exactly { (Rose (F.faults files.old) (F.faults files.new) → ⊥) → (Rose (O.faults out.old) (O.faults out.new) → ⊥) → (result ≡ Status.Memory → ⊥) → let texts = map (λ word. word.now) words.now in IfSome (sources_of texts (F.told files.old)) (λ sources. First texts sources result) }
+    ensures one_answer { (sources : Names) → HasFirst (map (λ word. word.now) words.now) sources }
     ensures read_fault { result ≡ Status.ReadFault → Rose (F.faults files.old) (F.faults files.new) }
+    ensures no_read_fault { (result ≡ Status.ReadFault → ⊥) → F.faults files.new ≡ F.faults files.old }
     ensures write_fault { result ≡ Status.WriteFault → Rose (O.faults out.old) (O.faults out.new) }
-    ensures held { Leaves (O.held out.old) (O.held out.new) result }
-    ensures asked { IfSome (F.told files.old) (λ _. AsksFor (map (λ word. word.now) words.now) (F.asked files.old) (F.asked files.new) result) }
-    ensures ready { ReadyFits (O.ready out.old) (O.ready out.new) result }
-    ensures said { let path = unwrap_or (entry_of (map (λ word. word.now) words.now)) [] in Told (O.held out.old) (O.held out.new) (Said path (option_map (λ files. bytes_under files path) (F.told files.old)) (Rose (O.message_faults out.old) (O.message_faults out.new)) result) }
+    ensures no_write_fault { (result ≡ Status.WriteFault → ⊥) → O.faults out.new ≡ O.faults out.old }
+    ensures no_message_fault { result ≡ Status.Done → O.message_faults out.new ≡ O.message_faults out.old }
+    ensures held { Leaves (stylesheet_name (map (λ word. word.now) words.now)) (O.held out.old) (O.held out.new) result }
+    ensures asked { IfSome (F.told files.old) (λ _. AsksFor (entry_path (map (λ word. word.now) words.now)) (F.asked files.old) (F.asked files.new) result) }
+    ensures ready { ReadyFits (stylesheet_name (map (λ word. word.now) words.now)) (O.ready out.old) (O.ready out.new) result }
+    ensures said { let texts = map (λ word. word.now) words.now in Told (O.held out.old) (O.held out.new) (Said (stylesheet_name texts) (entry_path texts) (sources_of texts (F.told files.old)) (Rose (O.message_faults out.old) (O.message_faults out.new)) result) }
 {
     first_answer();
     match entry(words) {
@@ -59,17 +62,20 @@ pub fn run<F: Files, O: Outbox, G: Gate + Sync>(
 // Runs with this entry.
 fn run_entry<F: Files, O: Outbox>(alloc: Global, path: &str, files: &mut F, out: &mut O) -> Status
     ensures command { IsOfCommand result }
-    ensures winners { IfSome (F.told files.old) (λ told. WinnersFit (told path.now) (O.held out.old) (O.held out.new) result) }
-    ensures limit { IfSome (F.told files.old) (λ told. LimitFits (told path.now) result) }
-    ensures refused { IfSome (F.told files.old) (λ told. RefusalFits path.now (told path.now) result) }
-    ensures accepted { IfSome (F.told files.old) (λ told. WritingFits path.now (told path.now) result) }
-    ensures exactly { (Rose (F.faults files.old) (F.faults files.new) → ⊥) → (Rose (O.faults out.old) (O.faults out.new) → ⊥) → (result ≡ Status.Memory → ⊥) → IfSome (F.told files.old) (λ told. IsFirstOfFile path.now (told path.now) result) }
+    ensures winners { IfSome (F.told files.old) (λ sources. WinnersFit standard path.now sources (O.held out.old) (O.held out.new) result) }
+    ensures limit { IfSome (F.told files.old) (λ sources. LimitFits path.now sources result) }
+    ensures refused { IfSome (F.told files.old) (λ sources. RefusalFits path.now sources result) }
+    ensures accepted { IfSome (F.told files.old) (λ sources. WritingFits path.now sources result) }
+    ensures exactly { (Rose (F.faults files.old) (F.faults files.new) → ⊥) → (Rose (O.faults out.old) (O.faults out.new) → ⊥) → (result ≡ Status.Memory → ⊥) → IfSome (F.told files.old) (λ sources. IsFirstOfSources path.now sources result) }
     ensures read_fault { result ≡ Status.ReadFault → Rose (F.faults files.old) (F.faults files.new) }
+    ensures no_read_fault { (result ≡ Status.ReadFault → ⊥) → F.faults files.new ≡ F.faults files.old }
     ensures write_fault { result ≡ Status.WriteFault → Rose (O.faults out.old) (O.faults out.new) }
-    ensures held { Leaves (O.held out.old) (O.held out.new) result }
-    ensures asked { IfSome (F.told files.old) (λ _. AsksFor (path.now ∷ []) (F.asked files.old) (F.asked files.new) result) }
-    ensures ready { ReadyFits (O.ready out.old) (O.ready out.new) result }
-    ensures said { Told (O.held out.old) (O.held out.new) (Said path.now (option_map (λ files. bytes_under files path.now) (F.told files.old)) (Rose (O.message_faults out.old) (O.message_faults out.new)) result) }
+    ensures no_write_fault { (result ≡ Status.WriteFault → ⊥) → O.faults out.new ≡ O.faults out.old }
+    ensures no_message_fault { result ≡ Status.Done → O.message_faults out.new ≡ O.message_faults out.old }
+    ensures held { Leaves standard (O.held out.old) (O.held out.new) result }
+    ensures asked { IfSome (F.told files.old) (λ _. AsksFor path.now (F.asked files.old) (F.asked files.new) result) }
+    ensures ready { ReadyFits standard (O.ready out.old) (O.ready out.new) result }
+    ensures said { Told (O.held out.old) (O.held out.new) (Said standard path.now (F.told files.old) (Rose (O.message_faults out.old) (O.message_faults out.new)) result) }
 {
     match read_whole(alloc, path, files) {
         Load::Whole(source) => judge(alloc, path, source.as_slice(), out),

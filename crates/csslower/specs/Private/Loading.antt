@@ -1,8 +1,13 @@
 -- What the read of a file gave.
 use Rattle.std.specs.Prelude.{◌≡◌, ℕ, ◌≤◌, List, ◌∷◌, [], ◌++◌, length, Option, Some, None}
+use Rattle.css_outside.specs.Names.{Names}
 use Rattle.csslower.specs.Answers.{IsLong}
 use Rattle.csslower.specs.declared.load.Load.{Load}
 use Rattle.csslower.specs.declared.load.Load.TheVariants.{Whole, Long, Missing, Failed, Memory}
+
+-- files of which each, whatever its path, is this text
+abbrev pub alike : List ℕ → Names
+alike text path = Some text
 
 -- the file is as the read gave it
 abbrev pub IsLoaded : Option (List ℕ) → Load → Type 0
@@ -27,6 +32,14 @@ IfFailed (Whole bytes) P = Unit {0}
 IfFailed Long P = Unit {0}
 IfFailed Missing P = Unit {0}
 IfFailed Memory P = Unit {0}
+
+-- a fact where the read did not fail
+abbrev pub UnlessFailed : Load → Type 0 → Type 0
+UnlessFailed Failed P = Unit {0}
+UnlessFailed (Whole bytes) P = P
+UnlessFailed Long P = P
+UnlessFailed Missing P = P
+UnlessFailed Memory P = P
 
 -- the paths asked so far, after a read: want of memory adds none
 abbrev pub asked_after : List (List ℕ) → List ℕ → Load → List (List ℕ)

@@ -1,14 +1,14 @@
 -- What parts of a run put to an output, and what they leave.
 use Rattle.std.specs.Prelude.{◌≡◌, ◌≢◌, ℕ, ◌≤◌, List, [], ◌∷◌, ◌++◌, Bool, true, false, Option, IsSome, length}
 use Rattle.css_outside.specs.Names.{Names, Told, bytes_under}
-use Rattle.csslower.specs.Writing.{WroteAll, WroteFront, SameOutputs}
+use Rattle.csslower.specs.Writing.{standard, WroteAll, WroteFront, SameOutputs}
 use Rattle.csslower.specs.declared.status.Status.{Status}
 use Rattle.csslower.specs.declared.status.Status.TheVariants.{Done, Refused, Usage, ReadFault, WriteFault, Memory, Limit}
 
--- this text is written whole, or from its front where that failed, or nothing is where memory was refused
+-- this text is written whole to standard output, or from its front where that failed, or nothing is where memory was refused
 abbrev pub Writes : List ℕ → Option Names → Option Names → Status → Type 0
-Writes text before now Done = Told before now (WroteAll text)
-Writes text before now WriteFault = Told before now (WroteFront text)
+Writes text before now Done = Told before now (WroteAll standard text)
+Writes text before now WriteFault = Told before now (WroteFront standard text)
 Writes text before now Memory = Told before now SameOutputs
 Writes text before now (Refused finding) = ⊥
 Writes text before now (Usage kind) = ⊥

@@ -9,7 +9,7 @@ use Rattle.csslower.proofs.Says.{told_said_after}
 use Rattle.csslower.proofs.judge.write_ready.Goals as goal
 
 pub returns-in-Err-clause-said : goal.returns-in-Err-clause-said
-returns-in-Err-clause-said g c = λ path source.
+returns-in-Err-clause-said g c = λ path sources.
     let apart : message ≢ standard = λ e. cc in
     let away : standard ≢ message = λ e. cc in
     let faults = g.O.Outbox.message_faults c.say.new.out in
