@@ -46,3 +46,41 @@ fn writes_real_files_and_streams(rt: HostRuntime) -> Result<(), Fail> {
     }
     Ok(())
 }
+
+#[test]
+fn writes_and_reads_a_mebibyte(rt: HostRuntime) -> Result<(), Fail> {
+    let text = vec![in rt.alloc(); b'x'; 1_048_576]?;
+    let mut outbox = FolderOutbox::new(rt, rt.alloc());
+    let mut rest = text.as_slice();
+    for _ in 0..1_048_576 {
+        match put_ready(&mut outbox, "large.css", rest) {
+            Ok(count) if count < rest.len() => rest = &rest[count..],
+            _ => break,
+        }
+    }
+    let mut files = FolderFiles::new(rt);
+    for (most, count) in [(2_000_000, 1_048_576), (1_048_575, 1_048_575)] {
+        match files.read(rt.alloc(), "large.css", most) {
+            Ok(Some(bytes)) => assert_eq!(rt; Some(bytes.as_slice()), text.get(..count)),
+            _ => assert!(rt; false, "large.css was not read"),
+        }
+    }
+    fs::remove_file(&rt, "large.css")?;
+    Ok(())
+}
+
+#[test]
+fn writes_a_hundred_files(rt: HostRuntime) -> Result<(), Fail> {
+    let mut outbox = FolderOutbox::new(rt, rt.alloc());
+    for at in 0..1_000 {
+        let name = format!(in rt.alloc(); "{}.css", at % 100)?;
+        assert_eq!(rt; put_ready(&mut outbox, name.as_str(), b"p{a:b}\n"), Ok(7));
+    }
+    for i in 0..100 {
+        let name = format!(in rt.alloc(); "{i}.css")?;
+        let text = fs::read_to_string(&rt, name.as_str())?;
+        assert_eq!(rt; text.len(), 70);
+        fs::remove_file(&rt, name.as_str())?;
+    }
+    Ok(())
+}

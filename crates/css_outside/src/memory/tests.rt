@@ -1,3 +1,5 @@
+mod large;
+
 use crate::put_ready::put_ready;
 use crate::{Files, FilesFault, MemoryFiles, MemoryOutbox, PutFailed, SureFiles};
 use css_tokens::{List, OutOfMemory, Text};
