@@ -12,9 +12,9 @@ use Rattle.css_tokens.specs.PlainNames.{is_plain_name}
 use Rattle.css_tokens.specs.Tokens.{First, ReadsTo, Reads, first_front, word, is_plain, spells}
 use Rattle.css_tokens.specs.Trees.{words_all, all_formed}
 use Rattle.css_rules.specs.ReadableSelectors.{is_spelled, is_spelled_kind}
-use Rattle.css_rules.specs.Runs.{Run, bare_run, bare_runs, runs_of}
+use Rattle.css_rules.specs.Runs.{Run, BareRun, bare_run, bare_runs, runs_of}
 use Rattle.css_rules.specs.Printable.{ArePrintable}
-use Rattle.css_rules.specs.Sheets.{sheet_of, sheet_refusals}
+use Rattle.css_rules.specs.Sheets.{sheet_of}
 use Rattle.css_rules.specs.SheetAgain.{sheet_again}
 use Rattle.css_rules.specs.SheetTexts.{runs_text, sheet_text}
 use Rattle.css_rules.specs.Standing.{AllStand}
@@ -22,7 +22,7 @@ use Rattle.css_rules.specs.declared.sheet.Sheet.{Sheet}
 use Rattle.css_rules.specs.Statements.{statements_of}
 use Rattle.css_rules.specs.RunStatements.{run_says}
 use Rattle.cascade_spec.specs.Contents.{winner, passed_rules}
-use Rattle.cascade_spec.specs.Readings.{ReadsAs, IsReadAgain, KeepsWinners}
+use Rattle.cascade_spec.specs.Readings.{HasSheet, IsReadAgain, KeepsWinners}
 
 and_left : (a b : Bool) → (a && b) ≡ true → a ≡ true
 and_left true b e = refl
@@ -74,36 +74,42 @@ pub record SheetLaws : Type 0 where
   pub one : (t : List ℕ) (a b : List Word) → Reads t a → Reads t b → a ≡ b
   pub names : (n : List ℕ) → is_plain n ≡ true → spells kinds.Ident n ≡ true → is_plain_name n ≡ true
   pub first : (t : List ℕ) (w : Word) → First t w → spells w.kind w.text ≡ true
-  pub flat : (cs : List Component) → sheet_text (sheet_of cs) ≡ runs_text (runs_of (sheet_of cs))
-  pub printable : (cs : List Component) → sheet_refusals cs ≡ [] → IsTrue (all_formed cs) → IsTrue (list_all is_spelled (words_all cs)) → ArePrintable (runs_of (sheet_of cs))
-  pub standing : (text : List ℕ) (cs : List Component) → Reads text (words_all cs) → IsTrue (all_formed cs) → sheet_refusals cs ≡ [] → AllStand (runs_of (sheet_of cs))
+  pub flat : (cs : List Component) (sheet : Sheet) → sheet_of cs ≡ Some sheet → sheet_text sheet ≡ runs_text (runs_of sheet)
+  pub printable : (cs : List Component) (sheet : Sheet) → sheet_of cs ≡ Some sheet → IsTrue (all_formed cs) → IsTrue (list_all is_spelled (words_all cs)) → ArePrintable (runs_of sheet)
+  pub standing : (text : List ℕ) (cs : List Component) (sheet : Sheet) → Reads text (words_all cs) → IsTrue (all_formed cs) → sheet_of cs ≡ Some sheet → AllStand (runs_of sheet)
   pub reads : (runs : List Run) → ArePrintable runs → AllStand runs → Reads (runs_text runs) (words_all (sheet_again runs))
   pub formed : (runs : List Run) → ArePrintable runs → IsTrue (all_formed (sheet_again runs))
-  pub faultless : (runs : List Run) → ArePrintable runs → sheet_refusals (sheet_again runs) ≡ []
-  pub same : (runs : List Run) → ArePrintable runs → bare_runs (sheet_of (sheet_again runs)) ≡ map bare_run runs
-  pub places : (a b : List Component) → words_all a ≡ words_all b → IsTrue (all_formed a) → IsTrue (all_formed b) → bare_runs (sheet_of a) ≡ bare_runs (sheet_of b)
+  pub same : (runs : List Run) → ArePrintable runs → option_map bare_runs (sheet_of (sheet_again runs)) ≡ Some (map bare_run runs)
+  pub places : (a b : List Component) → words_all a ≡ words_all b → IsTrue (all_formed a) → IsTrue (all_formed b) → option_map bare_runs (sheet_of a) ≡ option_map bare_runs (sheet_of b)
+
+-- the sheet of which this was made
+sheet_behind : (o : Option Sheet) (runs : List BareRun) → option_map bare_runs o ≡ Some runs → (sheet : Sheet) × (o ≡ Some sheet) × (bare_runs sheet ≡ runs)
+sheet_behind None runs e = absurd (cc e)
+sheet_behind (Some sheet) runs e = (sheet, refl, cc e)
 
 module _ (laws : SheetLaws) where
-  -- two readings of one text say the same
-  pub one-sheet : (text : List ℕ) (a b : List Component) → ReadsAs text a → ReadsAs text b → bare_runs (sheet_of a) ≡ bare_runs (sheet_of b)
-  one-sheet text a b p q = laws.places a b (laws.one text (words_all a) (words_all b) p.reads q.reads) p.formed q.formed
+  -- two sheets of one text say the same
+  pub one-sheet : (text : List ℕ) (a b : Sheet) → HasSheet text a → HasSheet text b → bare_runs a ≡ bare_runs b
+  one-sheet text a b p q =
+      let words = laws.one text (words_all p.0) (words_all q.0) p.1.reads q.1.reads in
+      let same = sym (ap (option_map bare_runs) p.2) ∙ laws.places p.0 q.0 words p.1.formed q.1.formed ∙ ap (option_map bare_runs) q.2 in
+      cc same
 
   -- what is written from a sheet reads as the sheet of its text
-  pub reads-again : (source : List ℕ) (cs : List Component) → IsTrue (is_plain source) → ReadsAs source cs → IsReadAgain source (sheet_text (sheet_of cs))
-  reads-again source cs plain read =
-      let runs = runs_of (sheet_of cs) in
-      let printable : ArePrintable runs = laws.printable cs read.faultless read.formed (words-spelled laws.names laws.first source (words_all cs) [] plain read.reads) in
-      let stands : AllStand runs = laws.standing source cs read.reads read.formed read.faultless in
-      let again : ReadsAs (runs_text runs) (sheet_again runs) = record { reads = laws.reads runs printable stands; formed = laws.formed runs printable; faultless = laws.faultless runs printable } in
-      subst (IsReadAgain source) (sym (laws.flat cs))
+  pub reads-again : (source : List ℕ) (sheet : Sheet) → IsTrue (is_plain source) → HasSheet source sheet → IsReadAgain source (sheet_text sheet)
+  reads-again source sheet plain has =
+      let cs = has.0 in
+      let runs = runs_of sheet in
+      let printable : ArePrintable runs = laws.printable cs sheet has.2 has.1.formed (words-spelled laws.names laws.first source (words_all cs) [] plain has.1.reads) in
+      let stands : AllStand runs = laws.standing source cs sheet has.1.reads has.1.formed has.2 in
+      let again = sheet_behind (sheet_of (sheet_again runs)) (map bare_run runs) (laws.same runs printable) in
+      let written : HasSheet (runs_text runs) again.0 = (sheet_again runs, record { reads = laws.reads runs printable stands; formed = laws.formed runs printable }, again.1) in
+      subst (IsReadAgain source) (sym (laws.flat cs sheet has.2))
       (record {
-        readable = (sheet_of (sheet_again runs), (sheet_again runs, again, refl));
+        readable = (again.0, written);
         same = λ old new is_old is_new.
             laws.said new
-            ∙ ap (flat_map run_says)
-            (ap bare_runs is_new.2
-            ∙ one-sheet (runs_text runs) is_new.0 (sheet_again runs) is_new.1 again ∙ laws.same runs printable ∙ one-sheet source cs is_old.0 read is_old.1
-            ∙ ap bare_runs (sym is_old.2))
+            ∙ ap (flat_map run_says) (one-sheet (runs_text runs) new again.0 is_new written ∙ again.2 ∙ one-sheet source sheet old has is_old)
             ∙ sym (laws.said old);
       })
 

@@ -1,22 +1,21 @@
 -- What it is for a text to read as a sheet (CSS Syntax 3, section 5), and for another text to read as the same one and to keep its winners.
-use Rattle.std.specs.Prelude.{ℕ, List, [], ◌≡◌, IsTrue}
+use Rattle.std.specs.Prelude.{ℕ, List, Some, ◌≡◌, IsTrue}
 use Rattle.css_tokens.specs.declared.component.Component.{Component}
 use Rattle.css_tokens.specs.Tokens.{Reads}
 use Rattle.css_tokens.specs.Trees.{words_all, all_formed}
 use Rattle.css_rules.specs.declared.sheet.Sheet.{Sheet}
-use Rattle.css_rules.specs.Sheets.{sheet_of, sheet_refusals}
+use Rattle.css_rules.specs.Sheets.{sheet_of}
 use Rattle.css_rules.specs.Statements.{statements_of}
 use Rattle.cascade_spec.specs.Contents.{SameWinners}
 
--- The text reads as these components, places aside: their words are its tokens, their brackets are paired to any depth, and nothing in them is refused.
+-- The text reads as these components, places aside: its tokens are their words, and their brackets are paired, to any depth.
 pub record ReadsAs (text : List ℕ) (components : List Component) : Type 0 where
   pub reads : Reads text (words_all components)
   pub formed : IsTrue (all_formed components)
-  pub faultless : sheet_refusals components ≡ []
 
--- the text reads as this sheet, places aside
+-- the text reads as components that spell this sheet, places aside
 abbrev pub HasSheet : List ℕ → Sheet → Type 0
-HasSheet text sheet = (components : List Component) × ReadsAs text components × (sheet ≡ sheet_of components)
+HasSheet text sheet = (components : List Component) × ReadsAs text components × (sheet_of components ≡ Some sheet)
 
 -- The one text reads as the sheet of the other, places, comments, the spelling of white space and empty rules aside, and it has a sheet.
 pub record IsReadAgain (source written : List ℕ) : Type 0 where

@@ -6,6 +6,7 @@ ghost use Rattle.std.specs.declared.cmp.Ordering.TheVariants.{Less, Equal, Great
 ghost use Rattle.css_rules.specs.declared.selector.Combinator.TheVariants.{Descendant, Child, Next, Later};
 ghost use Rattle.css_rules.specs.Samples.{every, one, two, source, ident, delim, dot, colon, semicolon, braces};
 ghost use Rattle.css_rules.specs.Sheets.{sheet_of};
+ghost use Rattle.std.specs.Option.{option_map};
 ghost use Rattle.cascade_spec.specs.Lines.{line_of, column_of};
 ghost use Rattle.cascade_spec.specs.Specificities.{plus, specificity_cmp, greatest};
 ghost use Rattle.cascade_spec.specs.Matching.{top, within, selector_holds, selector_specificity};
@@ -244,10 +245,10 @@ pub fn rules_are_passed_on()
 
 /// Which declaration of a written sheet wins for the paragraph `.a.red`.
 pub fn sheets_win()
-    ensures later { winner (asked false "color") (statements_of (sheet_of (source (ident "p" ∷ braces (ident "color" ∷ colon ∷ ident "red" ∷ []) ∷ ident "p" ∷ braces (ident "color" ∷ colon ∷ ident "blue" ∷ []) ∷ [])))) ≡ Some (codes "blue") }
-    ensures later_in_a_rule { winner (asked false "color") (statements_of (sheet_of (source (ident "p" ∷ braces (ident "color" ∷ colon ∷ ident "red" ∷ semicolon ∷ ident "color" ∷ colon ∷ ident "blue" ∷ []) ∷ [])))) ≡ Some (codes "blue") }
-    ensures more_specific { winner (asked false "color") (statements_of (sheet_of (source (dot ∷ ident "a" ∷ braces (ident "color" ∷ colon ∷ ident "red" ∷ []) ∷ ident "p" ∷ braces (ident "color" ∷ colon ∷ ident "blue" ∷ []) ∷ [])))) ≡ Some (codes "red") }
-    ensures important { winner (asked true "color") (statements_of (sheet_of (source (ident "p" ∷ braces (ident "color" ∷ colon ∷ ident "red" ∷ delim "!" ∷ ident "important" ∷ []) ∷ [])))) ≡ Some (codes "red") }
-    ensures no_layer { (showing (asked false "color") (statements_of (sheet_of (source (ident "p" ∷ braces (ident "color" ∷ colon ∷ ident "red" ∷ []) ∷ []))))).layers ≡ [] }
-    ensures nothing { winner (asked false "color") (statements_of (sheet_of [])) ≡ None }
+    ensures later { option_map (λ sheet. winner (asked false "color") (statements_of sheet)) (sheet_of (source (ident "p" ∷ braces (ident "color" ∷ colon ∷ ident "red" ∷ []) ∷ ident "p" ∷ braces (ident "color" ∷ colon ∷ ident "blue" ∷ []) ∷ []))) ≡ Some (Some (codes "blue")) }
+    ensures later_in_a_rule { option_map (λ sheet. winner (asked false "color") (statements_of sheet)) (sheet_of (source (ident "p" ∷ braces (ident "color" ∷ colon ∷ ident "red" ∷ semicolon ∷ ident "color" ∷ colon ∷ ident "blue" ∷ []) ∷ []))) ≡ Some (Some (codes "blue")) }
+    ensures more_specific { option_map (λ sheet. winner (asked false "color") (statements_of sheet)) (sheet_of (source (dot ∷ ident "a" ∷ braces (ident "color" ∷ colon ∷ ident "red" ∷ []) ∷ ident "p" ∷ braces (ident "color" ∷ colon ∷ ident "blue" ∷ []) ∷ []))) ≡ Some (Some (codes "red")) }
+    ensures important { option_map (λ sheet. winner (asked true "color") (statements_of sheet)) (sheet_of (source (ident "p" ∷ braces (ident "color" ∷ colon ∷ ident "red" ∷ delim "!" ∷ ident "important" ∷ []) ∷ []))) ≡ Some (Some (codes "red")) }
+    ensures no_layer { option_map (λ sheet. (showing (asked false "color") (statements_of sheet)).layers) (sheet_of (source (ident "p" ∷ braces (ident "color" ∷ colon ∷ ident "red" ∷ []) ∷ []))) ≡ Some ([]) }
+    ensures nothing { option_map (λ sheet. winner (asked false "color") (statements_of sheet)) (sheet_of []) ≡ Some (None) }
 {}

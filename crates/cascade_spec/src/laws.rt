@@ -2,12 +2,10 @@
 
 ghost use Rattle.std.specs.Prelude.{◌≡◌, ◌++◌, [], ℕ, List, IsTrue, Bool, Some, flat_map};
 ghost use Rattle.std.specs.List.{AllByRecursion};
-ghost use Rattle.css_tokens.specs.declared.component.Component.{Component};
 ghost use Rattle.css_tokens.specs.Tokens.{is_plain};
 ghost use Rattle.css_rules.specs.BareSelectors.{BareSelector};
 ghost use Rattle.css_rules.specs.Contexts.{LayerPath, Context, outside, under_list};
 ghost use Rattle.css_rules.specs.Statements.{Statement, say_all, statements_of};
-ghost use Rattle.css_rules.specs.Sheets.{sheet_of};
 ghost use Rattle.css_rules.specs.SheetTexts.{sheet_text};
 ghost use Rattle.css_rules.specs.declared.selector.Combinator.TheVariants.{Descendant, Child, Next, Later};
 ghost use Rattle.css_rules.specs.declared.sheet.Item.{Item};
@@ -21,13 +19,13 @@ ghost use Rattle.cascade_spec.specs.Standings.{standing_of};
 ghost use Rattle.cascade_spec.specs.Cascade.{Question, Shown, IsWinner, winning};
 ghost use Rattle.cascade_spec.specs.Contents.{IsKept, SameWinners};
 ghost use Rattle.cascade_spec.specs.Showing.{showing, joined};
-ghost use Rattle.cascade_spec.specs.Readings.{ReadsAs, HasSheet, IsReadAgain, KeepsWinners};
+ghost use Rattle.cascade_spec.specs.Readings.{HasSheet, IsReadAgain, KeepsWinners};
 
-/// The text that a sheet prints as reads as the sheet of the text that the sheet was read from, and so keeps its winners,
-/// and a text reads as one sheet, places aside.
+/// The text that the sheet of a text prints as reads as that sheet, and so keeps its winners, and a text reads as one sheet,
+/// places aside.
 pub fn sheets_keep_winners()
-    ensures again { (source : List ℕ) (cs : List Component) → IsTrue (is_plain source) → ReadsAs source cs → IsReadAgain source (sheet_text (sheet_of cs)) }
-    ensures kept { (source : List ℕ) (cs : List Component) → IsTrue (is_plain source) → ReadsAs source cs → KeepsWinners source (sheet_text (sheet_of cs)) }
+    ensures again { (source : List ℕ) (sheet : Sheet) → IsTrue (is_plain source) → HasSheet source sheet → IsReadAgain source (sheet_text sheet) }
+    ensures kept { (source : List ℕ) (sheet : Sheet) → IsTrue (is_plain source) → HasSheet source sheet → KeepsWinners source (sheet_text sheet) }
     ensures one { (text : List ℕ) (a b : Sheet) → HasSheet text a → HasSheet text b → statements_of a ≡ statements_of b }
 {
     css_tokens::one_reading();

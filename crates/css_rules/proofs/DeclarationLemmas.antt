@@ -6,10 +6,10 @@ use Rattle.std.specs.Str.{str_to_ascii_lowercase}
 use Rattle.std.proofs.lemmas.Bool.Decides.{nat_tests}
 use Rattle.css_tokens.specs.declared.component.Component.{Component}
 use Rattle.css_rules.specs.Components.{is_bang}
-use Rattle.css_rules.specs.Cuts.{Cut, cuts, trimmed}
-use Rattle.css_rules.specs.Private.Marks.{EndsCut}
+use Rattle.css_rules.specs.Cuts.{Cut, cuts, cuts_at, trimmed}
+use Rattle.css_rules.specs.Private.Marks.{IsFirstMark}
 use Rattle.css_rules.specs.Declarations.{value_of, is_important}
-use Rattle.css_rules.proofs.CutLemmas.{first_cut, EndsCut-at_mark, EndsCut-at_end}
+use Rattle.css_rules.proofs.CutLemmas.{first_cut, plain-cut, EndsCut-at_mark, EndsCut-at_end}
 
 pub or_false_left : (a b : Bool) → (a || b) ≡ false → a ≡ false
 or_false_left true b e = e
@@ -30,24 +30,36 @@ lower-same (b ∷ bs) e =
     let rest = lower-same bs (or_false_right (is_ascii_uppercase b) (list_any is_ascii_uppercase bs) e) in
     ap (λ x. x ∷ str_to_ascii_lowercase bs) here ∙ ap (λ xs. b ∷ xs) rest
 
+abbrev bang_ends : List Component → Component → Bool
+bang_ends before c = is_bang c
+
 -- a second `!` leaves no value
-pub value_of-many : (value mark : Cut) (test : Component → Bool) (cs : List Component) → value_of (value ∷ mark ∷ cuts test cs) ≡ None
-value_of-many value mark test cs = ap (λ rest. value_of (value ∷ mark ∷ rest)) (first_cut test cs).1.1
+pub value_of-many : (value mark : Cut) (ends : List Component → Component → Bool) (cs : List Component) → value_of (value ∷ mark ∷ cuts ends cs) ≡ None
+value_of-many value mark ends cs = ap (λ rest. value_of (value ∷ mark ∷ rest)) (first_cut ends [] cs).1.1
+
+-- without a `!` all is the value
+pub value_of-plain : (tail : List Component) (end : ℕ) → end ≡ length tail → IsFirstMark is_bang tail 0 end → value_of (cuts_at is_bang tail) ≡ Some (trimmed (take end tail), false)
+value_of-plain tail end whole first =
+    let past : length tail ≤ end = omega arith in
+    let within : end ≤ length tail = omega arith in
+    let same : end - 0 ≡ end = omega arith in
+    ap value_of (EndsCut-at_end bang_ends tail 0 end past (plain-cut is_bang tail 0 end (omega arith) within first))
+    ∙ ap (λ n. Some (trimmed (take n tail), false)) same
 
 -- what stands behind the first `!` decides
-pub value_of-second : (tail : List Component) (end next : ℕ) → end < length tail → EndsCut is_bang tail 0 end → next < length tail → EndsCut is_bang tail (end + 1) next → value_of (cuts is_bang tail) ≡ None
-value_of-second tail end next first_inside first second_inside second =
-    let one = EndsCut-at_mark is_bang tail 0 end first_inside first in
-    let two = EndsCut-at_mark is_bang tail (end + 1) next second_inside second in
+pub value_of-second : (tail : List Component) (end next : ℕ) → end < length tail → IsFirstMark is_bang tail 0 end → end + 1 ≤ next → next < length tail → IsFirstMark is_bang tail (end + 1) next → value_of (cuts_at is_bang tail) ≡ None
+value_of-second tail end next first_inside first after second_inside second =
+    let one = EndsCut-at_mark bang_ends tail 0 end first_inside (plain-cut is_bang tail 0 end (omega arith) (omega arith) first) in
+    let two = EndsCut-at_mark bang_ends tail (end + 1) next second_inside (plain-cut is_bang tail (end + 1) next after (omega arith) second) in
     ap value_of one.1
     ∙ ap (λ rest. value_of (record { front = slice_range tail 0 end; mark = Some one.0 } ∷ rest)) two.1
-    ∙ value_of-many (record { front = slice_range tail 0 end; mark = Some one.0 }) (record { front = slice_range tail (end + 1) next; mark = Some two.0 }) is_bang (drop (next + 1) tail)
+    ∙ value_of-many (record { front = slice_range tail 0 end; mark = Some one.0 }) (record { front = slice_range tail (end + 1) next; mark = Some two.0 }) bang_ends (drop (next + 1) tail)
 
-pub value_of-marked : (tail : List Component) (end next : ℕ) (b : Bool) → end < length tail → EndsCut is_bang tail 0 end → length tail ≤ next → EndsCut is_bang tail (end + 1) next
-    → is_important (trimmed (slice_range tail (end + 1) next)) ≡ b → value_of (cuts is_bang tail) ≡ cond b (Some (trimmed (take end tail), true)) None
-value_of-marked tail end next b first_inside first second_past second important =
-    let one = EndsCut-at_mark is_bang tail 0 end first_inside first in
-    let two = EndsCut-at_end is_bang tail (end + 1) next second_past second in
+pub value_of-marked : (tail : List Component) (end next : ℕ) (b : Bool) → end < length tail → IsFirstMark is_bang tail 0 end → end + 1 ≤ next → next ≤ length tail → length tail ≤ next → IsFirstMark is_bang tail (end + 1) next
+    → is_important (trimmed (slice_range tail (end + 1) next)) ≡ b → value_of (cuts_at is_bang tail) ≡ cond b (Some (trimmed (take end tail), true)) None
+value_of-marked tail end next b first_inside first after within second_past second important =
+    let one = EndsCut-at_mark bang_ends tail 0 end first_inside (plain-cut is_bang tail 0 end (omega arith) (omega arith) first) in
+    let two = EndsCut-at_end bang_ends tail (end + 1) next second_past (plain-cut is_bang tail (end + 1) next after within second) in
     let whole : end - 0 ≡ end = omega arith in
     ap value_of one.1
     ∙ ap (λ rest. value_of (record { front = slice_range tail 0 end; mark = Some one.0 } ∷ rest)) two

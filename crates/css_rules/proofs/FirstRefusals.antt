@@ -1,51 +1,23 @@
--- The refusal that is named stands, and before all others.
-use Rattle.std.proofs.Common.{◌≡◌, ◌≢◌, ℕ, suc, length, ◌≤◌, ◌<◌, List, [], ◌∷◌, refl, sym, subst, Option, Some, None, inl, inr, ◌⊎◌, arith}
+-- The refusal that is named stands, and leads all others.
+use Rattle.std.proofs.Common.{◌≡◌, ℕ, suc, length, ◌<◌, List, [], ◌∷◌, true, refl, sym, subst, Option, Some, None, inl, inr, ◌⊎◌, arith, IsTrue}
 use Rattle.std.specs.List.{AllByRecursion, Contains}
-use Rattle.std.proofs.lemmas.Bool.Decides.{nat_tests}
+use Rattle.std.proofs.lemmas.Bool.{cases_Bool}
 use Rattle.css_rules.specs.declared.refusal.Refusal.{Refusal}
-use Rattle.css_rules.specs.declared.refusal.Refusal.TheVariants.{Syntax, Unbuilt}
-use Rattle.css_rules.specs.Refusals.{place_of, sooner, sooner_of, first_refusal}
+use Rattle.css_rules.specs.Refusals.{leads, sooner, sooner_of, first_refusal}
+use Rattle.css_rules.proofs.RefusalLemmas.{leads-trans, leads-total, leads-self, sooner-first, sooner-second}
 
--- the first stands before the second, or beside it and is not the worse of them
 abbrev Leads : Refusal → Refusal → Type 0
-Leads (Syntax a) (Syntax b) = a ≤ b
-Leads (Syntax a) (Unbuilt b) = a < b
-Leads (Unbuilt a) (Syntax b) = a ≤ b
-Leads (Unbuilt a) (Unbuilt b) = a ≤ b
-
-leads-place : (r s : Refusal) → Leads r s → place_of r ≤ place_of s
-leads-place (Syntax a) (Syntax b) h = h
-leads-place (Syntax a) (Unbuilt b) h = omega arith
-leads-place (Unbuilt a) (Syntax b) h = h
-leads-place (Unbuilt a) (Unbuilt b) h = h
-
-leads-tie : (at : ℕ) (s : Refusal) → Leads (Syntax at) s → s ≢ Unbuilt at
-leads-tie at (Syntax b) h e = absurd (cc e)
-leads-tie at (Unbuilt b) h e = let same : b ≡ at = cc e in omega arith
-
-leads-self : (r : Refusal) → Leads r r
-leads-self (Syntax a) = omega arith
-leads-self (Unbuilt a) = omega arith
-
-leads-trans : (q r s : Refusal) → Leads q r → Leads r s → Leads q s
-leads-trans (Syntax a) (Syntax b) (Syntax c) h k = omega arith
-leads-trans (Syntax a) (Syntax b) (Unbuilt c) h k = omega arith
-leads-trans (Syntax a) (Unbuilt b) (Syntax c) h k = omega arith
-leads-trans (Syntax a) (Unbuilt b) (Unbuilt c) h k = omega arith
-leads-trans (Unbuilt a) (Syntax b) (Syntax c) h k = omega arith
-leads-trans (Unbuilt a) (Syntax b) (Unbuilt c) h k = omega arith
-leads-trans (Unbuilt a) (Unbuilt b) (Syntax c) h k = omega arith
-leads-trans (Unbuilt a) (Unbuilt b) (Unbuilt c) h k = omega arith
+Leads r s = IsTrue (leads r s)
 
 -- the sooner of two is one of them and leads both
 abbrev Chosen : Refusal → Refusal → Refusal → Type 0
 Chosen q r s = ((s ≡ q) × Leads q r) ⊎ ((s ≡ r) × Leads r q)
 
 sooner-chosen : (q r : Refusal) → Chosen q r (sooner q r)
-sooner-chosen (Syntax a) (Syntax b) = grind (arith, nat_tests)
-sooner-chosen (Syntax a) (Unbuilt b) = grind (arith, nat_tests)
-sooner-chosen (Unbuilt a) (Syntax b) = grind (arith, nat_tests)
-sooner-chosen (Unbuilt a) (Unbuilt b) = grind (arith, nat_tests)
+sooner-chosen q r = elim (cases_Bool (leads q r)) [
+  | inl first ↦ inl (sooner-first q r first, first)
+  | inr second ↦ inr (sooner-second q r second, leads-total q r second)
+]
 
 record IsFirst (rs : List Refusal) (r : Refusal) : Type 0 where
   stands : Contains rs r
@@ -83,15 +55,8 @@ named (r ∷ rs) = named-more r rs (first_refusal rs) (named rs)
 first-of : (rs : List Refusal) (r : Refusal) → first_refusal rs ≡ Some r → IsFirst rs r
 first-of rs r e = subst (NamesFirst rs) e (named rs)
 
-each : (P Q : Refusal → Type 0) → ((s : Refusal) → P s → Q s) → (rs : List Refusal) → AllByRecursion P rs → AllByRecursion Q rs
-each P Q so [] h = tt
-each P Q so (s ∷ rs) h = (so s h.0, each P Q so rs h.1)
-
 pub first-stands : (rs : List Refusal) (r : Refusal) → first_refusal rs ≡ Some r → Contains rs r
 first-stands rs r e = (first-of rs r e).stands
 
-pub first-least : (rs : List Refusal) (r : Refusal) → first_refusal rs ≡ Some r → AllByRecursion (λ s. place_of r ≤ place_of s) rs
-first-least rs r e = each (Leads r) (λ s. place_of r ≤ place_of s) (leads-place r) rs (first-of rs r e).leads
-
-pub first-tie : (rs : List Refusal) (at : ℕ) → first_refusal rs ≡ Some (Syntax at) → AllByRecursion (λ s. s ≢ Unbuilt at) rs
-first-tie rs at e = each (Leads (Syntax at)) (λ s. s ≢ Unbuilt at) (leads-tie at) rs (first-of rs (Syntax at) e).leads
+pub first-least : (rs : List Refusal) (r : Refusal) → first_refusal rs ≡ Some r → AllByRecursion (λ s. IsTrue (leads r s)) rs
+first-least rs r e = (first-of rs r e).leads

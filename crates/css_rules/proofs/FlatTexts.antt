@@ -1,5 +1,6 @@
 -- A sheet whose rules are not nested prints as its runs.
-use Rattle.std.proofs.Common.{◌≡◌, ℕ, List, [], ◌∷◌, ◌++◌, map, flat_map, Option, Some, None, refl, sym, ap, ◌∙◌, codes}
+use Rattle.std.proofs.Common.{◌≡◌, ℕ, List, [], ◌∷◌, ◌++◌, map, flat_map, Option, Some, None, refl, sym, ap, subst, ◌∙◌, codes, inl, inr}
+use Rattle.std.specs.List.{AllByRecursion}
 use Rattle.std.proofs.lemmas.Grind.{flat_map-append}
 use Rattle.css_tokens.specs.declared.component.Component.{Component}
 use Rattle.css_tokens.specs.NameText.{name_text}
@@ -8,10 +9,12 @@ use Rattle.css_rules.specs.declared.sheet.Declaration.{Declaration}
 use Rattle.css_rules.specs.declared.sheet.Item.{Item, Style as the_style}
 use Rattle.css_rules.specs.declared.sheet.Style.{Style}
 use Rattle.css_rules.specs.BareSelectors.{BareSelector, bare_list}
-use Rattle.css_rules.specs.Components.{inside, is_braces}
 use Rattle.css_rules.specs.Cuts.{Cut, cuts}
 use Rattle.css_rules.specs.Runs.{Run, runs_of, runs_within, runs_within-Plain, runs_within-Style}
-use Rattle.css_rules.specs.Sheets.{declarations_of, rule_of, run_of, sheet_of}
+use Rattle.css_rules.specs.declared.sheet.Sheet.{Sheet}
+use Rattle.css_rules.specs.Sheets.{ends_rule, rule_of, run_of, sheet_of}
+use Rattle.css_rules.proofs.ReadAllLemmas.{read_all-holds}
+use Rattle.css_rules.proofs.RuleShapes.{rule-shape, sheet-items}
 use Rattle.css_rules.specs.SheetTexts.{ItemText, block_text, braced_text, importance_text, more_declarations, printed_item, printed_item-Plain, printed_item-Style, printed_value, rule_text, run_text, runs_text, sheet_text}
 
 abbrev text_among : Item → List ℕ
@@ -43,21 +46,28 @@ text-style s (d ∷ ds) some =
     ∙ sym (ap (λ (items : List Item). runs_text (flat_map (λ inner. runs_within inner (under_list list outside)) items ++ [])) some)
     ∙ sym (ap (λ (runs : List Run). runs_text (runs ++ [])) (runs_within-Style s outside))
 
-text-rule : (prelude : List Component) (mark : Option Component) → flat_map text_among (rule_of prelude mark) ≡ runs_text (flat_map runs_in (rule_of prelude mark))
-text-rule prelude None = refl
-text-rule prelude (Some block) = text-style _ (declarations_of (inside block)) refl
+abbrev IsFlat : List Item → Type 0
+IsFlat items = flat_map text_among items ≡ runs_text (flat_map runs_in items)
 
-text-cuts : (ks : List Cut) → flat_map text_among (flat_map (λ (cut : Cut). rule_of cut.front cut.mark) ks) ≡ runs_text (flat_map runs_in (flat_map (λ (cut : Cut). rule_of cut.front cut.mark) ks))
-text-cuts [] = refl
-text-cuts (k ∷ ks) =
-    let rule = rule_of k.front k.mark in
-    let rules = flat_map (λ (cut : Cut). rule_of cut.front cut.mark) ks in
-    flat_map-append text_among rule rules
-    ∙ ap (λ t. t ++ flat_map text_among rules) (text-rule k.front k.mark)
-    ∙ ap (λ t. runs_text (flat_map runs_in rule) ++ t) (text-cuts ks)
-    ∙ sym (flat_map-append run_text (flat_map runs_in rule) (flat_map runs_in rules))
-    ∙ ap runs_text (sym (flat_map-append runs_in rule rules))
+flat-both : (xs ys : List Item) → IsFlat xs → IsFlat ys → IsFlat (xs ++ ys)
+flat-both xs ys h k =
+    flat_map-append text_among xs ys
+    ∙ ap (λ t. t ++ flat_map text_among ys) h
+    ∙ ap (λ t. runs_text (flat_map runs_in xs) ++ t) k
+    ∙ sym (flat_map-append run_text (flat_map runs_in xs) (flat_map runs_in ys))
+    ∙ ap runs_text (sym (flat_map-append runs_in xs ys))
+
+flat-rule : (cut : Cut) (items : List Item) → Unit {0} → rule_of cut ≡ Some items → IsFlat items
+flat-rule cut items given e = elim (rule-shape cut items e) [
+  | inl none ↦ subst IsFlat (sym none) refl
+  | inr s ↦ subst IsFlat (sym s.is) (text-style _ s.ds refl)
+]
 
 -- what is read from components prints as its runs
-pub text-sheet_of : (cs : List Component) → sheet_text (sheet_of cs) ≡ runs_text (runs_of (sheet_of cs))
-text-sheet_of cs = text-cuts (cuts is_braces cs)
+pub text-sheet_of : (cs : List Component) (sheet : Sheet) → sheet_of cs ≡ Some sheet → sheet_text sheet ≡ runs_text (runs_of sheet)
+text-sheet_of cs sheet e =
+    read_all-holds IsFlat (λ cut. Unit {0}) rule_of refl flat-both flat-rule (cuts ends_rule cs) (each-unit (cuts ends_rule cs)) sheet.items (sheet-items cs sheet e)
+  where
+    each-unit : (ks : List Cut) → AllByRecursion (λ (cut : Cut). Unit {0}) ks
+    each-unit [] = tt
+    each-unit (k ∷ ks) = (tt, each-unit ks)

@@ -15,19 +15,15 @@ use Rattle.css_tokens.specs.Piece.{Piece, word_of}
 use Rattle.css_tokens.specs.PlainNames.{is_plain_name}
 use Rattle.css_tokens.specs.Trees.{pieces_of, pieces_all, words_all, closing, component_pieces, block_pieces, component_formed, block_formed, is_formed, all_formed, opens}
 use Rattle.css_rules.specs.Components.{Layer, head, inside, layer_head, layer_items, layer_is_single, is_ident, is_ident_kind, is_gap}
-use Rattle.css_rules.specs.Cuts.{Cut, cuts, with_front, trimmed, trimmed_start, trimmed_end}
+use Rattle.css_rules.specs.Cuts.{Cut, cuts_behind, with_front, trimmed, trimmed_start, trimmed_end}
 use Rattle.css_rules.specs.Printable.{begins_solid}
 use Rattle.css_rules.specs.ReadableSelectors.{is_spelled, is_spelled_kind}
-use Rattle.css_rules.proofs.CutLemmas.{cuts-unmarked, cuts-marked, trimmed_start-gap, trimmed_start-other}
+use Rattle.css_rules.proofs.CutLemmas.{not-true, cuts-unmarked, cuts-marked, trimmed_start-gap, trimmed_start-other}
 use Rattle.css_rules.proofs.CutAgain.{trimmed_end-solid}
 use Rattle.css_rules.proofs.SelectorPlaces.{single-piece}
 use Rattle.css_rules.proofs.SelectorSpelling.{and-left, and-right, and-both}
 
 -- Trimmed lists.
-
-pub not-true : (b : Bool) → not b ≡ true → b ≡ false
-not-true true e = sym e
-not-true false e = refl
 
 pub none-any : (test : Component → Bool) (cs : List Component) → list_all (λ c. not (test c)) cs ≡ true → list_any test cs ≡ false
 none-any test [] e = refl
@@ -78,15 +74,23 @@ longer test mark c (cut ∷ cs) kept unmarked each = (
   each.1,
 )
 
-pub parts-cuts : (test mark : Component → Bool) (cs : List Component) → list_all test cs ≡ true → AllByRecursion (IsPart test mark) (cuts mark cs)
-parts-cuts test mark [] e = (record { kept = refl; unmarked = refl; closed = tt }, tt)
-parts-cuts test mark (c ∷ cs) e =
-    let rest = parts-cuts test mark cs (and-right (test c) (list_all test cs) e) in
+-- where a mark ends whatever stands before it
+pub parts-cuts : (test mark : Component → Bool) (ends : List Component → Component → Bool) → ((before : List Component) (c : Component) → mark c ≡ true → ends before c ≡ true)
+    → (before cs : List Component) → list_all test cs ≡ true → AllByRecursion (IsPart test mark) (cuts_behind ends before cs)
+parts-cuts test mark ends always before [] e = (record { kept = refl; unmarked = refl; closed = tt }, tt)
+parts-cuts test mark ends always before (c ∷ cs) e =
+    let more = and-right (test c) (list_all test cs) e in
     let here = and-left (test c) (list_all test cs) e in
-    elim (cases_Bool (mark c)) [
-      | inl marked ↦ subst (λ (xs : List Cut). AllByRecursion (IsPart test mark) xs) (sym (cuts-marked mark c cs marked)) (record { kept = refl; unmarked = refl; closed = here }, rest)
-      | inr unmarked ↦ subst (λ (xs : List Cut). AllByRecursion (IsPart test mark) xs) (sym (cuts-unmarked mark c cs unmarked)) (longer test mark c (cuts mark cs) here unmarked rest)
+    elim (cases_Bool (ends before c)) [
+      | inl marked ↦ subst (λ (xs : List Cut). AllByRecursion (IsPart test mark) xs) (sym (cuts-marked ends before c cs marked))
+          (record { kept = refl; unmarked = refl; closed = here }, parts-cuts test mark ends always [] cs more)
+      | inr unmarked ↦ subst (λ (xs : List Cut). AllByRecursion (IsPart test mark) xs) (sym (cuts-unmarked ends before c cs unmarked))
+          (longer test mark c (cuts_behind ends (before ++ c ∷ []) cs) here (no-mark (mark c) refl unmarked) (parts-cuts test mark ends always (before ++ c ∷ []) cs more))
     ]
+  where
+    no-mark : (b : Bool) → mark c ≡ b → ends before c ≡ false → b ≡ false
+    no-mark true is other = sym (always before c is) ∙ other
+    no-mark false is other = refl
 
 -- Components that are well formed and whose Idents spell Idents.
 

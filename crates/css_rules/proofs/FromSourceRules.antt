@@ -1,27 +1,31 @@
 -- What a list of components without refusals is read as is printable.
-use Rattle.std.proofs.Common.{◌≡◌, ℕ, List, [], ◌∷◌, true, false, refl, sym, ◌∙◌, ap, subst, Option, Some, None, flat_map, MatchOption}
+use Rattle.std.proofs.Common.{◌≡◌, ℕ, List, [], ◌∷◌, true, false, refl, sym, ◌∙◌, ◌&&◌, ◌||◌, ◌++◌, ap, subst, Some, None, flat_map, MatchOption, inl, inr}
 use Rattle.std.specs.List.{list_all, list_any, AllByRecursion}
 use Rattle.std.proofs.lemmas.List.{append-nil}
 use Rattle.std.proofs.lemmas.List.Concat.{flat_map-append}
 use Rattle.css_tokens.specs.declared.component.Component.{Component}
 use Rattle.css_tokens.specs.Trees.{all_formed, words_all}
 use Rattle.css_rules.specs.Contexts.{outside, under_list}
-use Rattle.css_rules.specs.declared.refusal.Refusal.{Refusal}
-use Rattle.css_rules.specs.declared.refusal.Sought.TheVariants.{ColonOrBracket, Ampersand}
+use Rattle.css_rules.specs.declared.refusal.Sought.TheVariants.{Ampersand}
+use Rattle.css_rules.specs.declared.selector.Selector.{Selector}
+use Rattle.css_rules.specs.declared.sheet.Sheet.{Sheet}
 use Rattle.css_rules.specs.declared.sheet.Declaration.{Declaration}
 use Rattle.css_rules.specs.declared.sheet.Item.{Item}
 use Rattle.css_rules.specs.declared.sheet.Item as item
 use Rattle.css_rules.specs.declared.sheet.Style as style
 use Rattle.css_rules.specs.BareSelectors.{BareSelector, bare_list}
-use Rattle.css_rules.specs.Components.{head, inside, is_braces}
-use Rattle.css_rules.specs.Cuts.{Cut, cuts, trimmed}
+use Rattle.css_rules.specs.Components.{inside, is_braces, is_semicolon}
+use Rattle.css_rules.specs.Cuts.{Cut, cuts, trimmed_start}
 use Rattle.css_rules.specs.Printable.{is_nesting, IsPrintable, IsPrintableDeclaration, ArePrintable}
 use Rattle.css_rules.specs.ReadableSelectors.{is_readable_list, is_spelled}
-use Rattle.css_rules.specs.Refusals.{sought_in}
 use Rattle.css_rules.specs.Runs.{Run, runs_of, runs_within, runs_within-Plain, runs_within-Style}
 use Rattle.css_rules.specs.Selectors.{list_of, list_faults}
-use Rattle.css_rules.specs.Sheets.{declarations_of, run_of, first_place, rule_of, sheet_of, block_refusals, first_fault, prelude_refusals_by, prelude_refusals, begins_at_rule, rule_refusals_by, rule_refusals, sheet_refusals}
-use Rattle.css_rules.proofs.FromSourceDeclarations.{left-none, right-none, unrefused, each-append, block-printable}
+use Rattle.css_rules.specs.Sheets.{begins_at_rule, ends_rule, run_of, rule_of, sheet_of}
+use Rattle.css_rules.proofs.FromSourceDeclarations.{each-append, block-printable}
+use Rattle.css_rules.proofs.ListsRead.{list-given, told-list}
+use Rattle.css_rules.proofs.ReadAllLemmas.{read_all-holds, told-read}
+use Rattle.css_rules.proofs.RuleShapes.{prelude-shape, rule-shape, sheet-items}
+use Rattle.css_rules.proofs.SoughtTold.{sought-none}
 use Rattle.css_rules.proofs.FromSourceParts.{is_sound, all-sound, sound-spelled, sound-inside, IsPart, parts-cuts}
 use Rattle.css_rules.proofs.FromSourceSelectors.{list-not_nesting}
 use Rattle.css_rules.proofs.SelectorReadable.{readable-list}
@@ -53,54 +57,32 @@ style-printable s ds is readable plain each =
     (sym (append-nil (at_top (item.Style s)) ∙ runs_within-Style s outside ∙ ap (λ (items : List Item). flat_map (λ i. runs_within i (under_list list outside)) items) is))
     (items-printable list ds readable plain each)
 
--- Preludes and rules without refusals.
+-- Rules.
 
--- no `&` stands in it, and it has no fault
-record IsFaultless (prelude : List Component) (end : ℕ) : Type 0 where
-  plain : sought_in Ampersand prelude ≡ []
-  faultless : list_faults prelude end ≡ []
+abbrev TopPrintable : List Item → Type 0
+TopPrintable items = ArePrintable (flat_map at_top items)
 
-fault-none : (faults : List ℕ) → first_fault faults ≡ [] → faults ≡ []
-fault-none [] e = refl
-fault-none (at ∷ faults) e = absurd (cc e)
+both-printable : (xs ys : List Item) → TopPrintable xs → TopPrintable ys → TopPrintable (xs ++ ys)
+both-printable xs ys h k =
+    subst (λ (runs : List Run). ArePrintable runs) (sym (flat_map-append at_top xs ys)) (each-append IsPrintable (flat_map at_top xs) (flat_map at_top ys) h k)
 
-prelude-by : (sought : List Refusal) (prelude : List Component) (end : ℕ) → prelude_refusals_by sought prelude end ≡ [] → IsFaultless prelude end
-prelude-by (r ∷ rs) prelude end e = absurd (cc e)
-prelude-by [] prelude end e = record {
-  plain = left-none (sought_in Ampersand prelude) (first_fault (list_faults prelude end)) e;
-  faultless = fault-none (list_faults prelude end) (right-none (sought_in Ampersand prelude) (first_fault (list_faults prelude end)) e);
-}
+rule-printable : (cut : Cut) (items : List Item) → IsPart is_sound is_braces cut → rule_of cut ≡ Some items → TopPrintable items
+rule-printable cut items part e = elim (rule-shape cut items e) [
+  | inl none ↦ subst TopPrintable (sym none) tt
+  | inr s ↦
+      let prelude = prelude-shape cut.front s.list s.prelude in
+      let same = list-given cut.front s.list prelude.spelled in
+      let faultless = told-read (list_of cut.front) s.list (list_faults cut.front 0) (told-list cut.front 0) prelude.spelled in
+      let closed : is_sound s.block ≡ true = subst (λ o. MatchOption o (Unit {0}) (λ c. is_sound c ≡ true)) s.mark part.closed in
+      subst TopPrintable (sym s.is)
+      (style-printable (record { selectors = s.list; items = run_of s.ds; at = s.at }) s.ds refl
+      (ap (λ (list : List Selector). is_readable_list (bare_list list)) same ∙ readable-list cut.front 0 (sound-spelled cut.front part.kept) faultless)
+      (ap (λ (list : List Selector). list_any is_nesting (bare_list list)) same ∙ list-not_nesting cut.front (sought-none Ampersand cut.front prelude.ampersand))
+      (block-printable (inside s.block) s.ds (sound-inside s.block closed) s.inner))
+]
 
-marked-printable : (words prelude : List Component) (mark : Option Component) → list_all is_sound prelude ≡ true → MatchOption mark (Unit {0}) (λ c. is_sound c ≡ true)
-    → rule_refusals_by words prelude mark ≡ [] → ArePrintable (flat_map at_top (rule_of prelude mark))
-marked-printable words prelude None sound closed none = tt
-marked-printable words prelude (Some block) sound closed none =
-    let end = (head block).at in
-    let ds = declarations_of (inside block) in
-    let prelude_none = left-none (prelude_refusals prelude end) (block_refusals (inside block)) none in
-    let block_none = right-none (prelude_refusals prelude end) (block_refusals (inside block)) none in
-    let fine = prelude-by (sought_in ColonOrBracket prelude) prelude end prelude_none in
-    style-printable (record { selectors = list_of prelude; items = run_of ds; at = first_place (trimmed prelude) end }) ds refl
-    (readable-list prelude end (sound-spelled prelude sound) fine.faultless)
-    (list-not_nesting prelude fine.plain)
-    (block-printable (inside block) (sound-inside block closed) block_none)
-
-cut-printable : (cut : Cut) → IsPart is_sound is_braces cut → rule_refusals cut ≡ [] → ArePrintable (flat_map at_top (rule_of cut.front cut.mark))
-cut-printable cut part none =
-    marked-printable (trimmed cut.front) cut.front cut.mark part.kept part.closed
-    (unrefused (begins_at_rule (trimmed cut.front)) (first_place (trimmed cut.front) 0) (rule_refusals_by (trimmed cut.front) cut.front cut.mark) none)
-
-abbrev rule_at : Cut → List Item
-rule_at cut = rule_of cut.front cut.mark
-
-cuts-printable : (cs : List Cut) → AllByRecursion (IsPart is_sound is_braces) cs → flat_map rule_refusals cs ≡ [] → ArePrintable (flat_map at_top (flat_map rule_at cs))
-cuts-printable [] parts none = tt
-cuts-printable (cut ∷ cs) parts none =
-    let one = cut-printable cut parts.0 (left-none (rule_refusals cut) (flat_map rule_refusals cs) none) in
-    let rest = cuts-printable cs parts.1 (right-none (rule_refusals cut) (flat_map rule_refusals cs) none) in
-    subst (λ (runs : List Run). ArePrintable runs)
-    (sym (flat_map-append at_top (rule_at cut) (flat_map rule_at cs)))
-    (each-append IsPrintable (flat_map at_top (rule_at cut)) (flat_map at_top (flat_map rule_at cs)) one rest)
-
-pub sheet-printable : (cs : List Component) → sheet_refusals cs ≡ [] → all_formed cs ≡ true → list_all is_spelled (words_all cs) ≡ true → ArePrintable (runs_of (sheet_of cs))
-sheet-printable cs none formed spelled = cuts-printable (cuts is_braces cs) (parts-cuts is_sound is_braces cs (all-sound cs formed spelled)) none
+pub sheet-printable : (cs : List Component) (sheet : Sheet) → sheet_of cs ≡ Some sheet → all_formed cs ≡ true → list_all is_spelled (words_all cs) ≡ true → ArePrintable (runs_of sheet)
+sheet-printable cs sheet e formed spelled =
+    read_all-holds TopPrintable (IsPart is_sound is_braces) rule_of tt both-printable rule-printable (cuts ends_rule cs)
+    (parts-cuts is_sound is_braces ends_rule (λ before c s. ap (λ b. b || (is_semicolon c && begins_at_rule (trimmed_start before))) s) [] cs (all-sound cs formed spelled))
+    sheet.items (sheet-items cs sheet e)

@@ -10,6 +10,7 @@ use Rattle.css_tokens.specs.declared.component.Component.{Component, out-Compone
 use Rattle.css_tokens.specs.declared.component.Component.TheOpen.{Single, Block}
 use Rattle.css_tokens.specs.Piece.{Piece}
 use Rattle.css_tokens.specs.Trees.{pieces_of, pieces_all, is_text}
+use Rattle.css_rules.specs.Private.SelectorSteps.{selectors_in}
 use Rattle.css_rules.specs.declared.refusal.Sought.TheVariants.{Ampersand}
 use Rattle.css_rules.specs.declared.selector.Combinator.{Combinator}
 use Rattle.css_rules.specs.declared.selector.TypeName.{TypeName}
@@ -26,9 +27,9 @@ use Rattle.css_rules.specs.BareSelectors.{bare_compound, bare_link, bare_selecto
 use Rattle.css_rules.specs.Components.{Layer}
 use Rattle.css_rules.specs.Printable.{is_parent, has_parent, is_nesting}
 use Rattle.css_rules.specs.Refusals.{is_ampersand, is_sought, unbuilt_at, sought_in}
-use Rattle.css_rules.specs.Selectors.{with_part, parts_of, compound_with, compound_of, stripped, white_before, sign_before, spaced, clean_signs, Runs, run_before, runs_of, with_link, links_of, selector_with, selector_at, first_place, selector_of, Member, empty_before, with_component, cut_at_commas, members_of, list_of}
+use Rattle.css_rules.specs.Selectors.{with_part, parts_of, compound_with, compound_of, stripped, white_before, sign_before, spaced, clean_signs, Runs, run_before, runs_of, with_link, links_of, selector_with, selector_at, first_place, selector_of, Member, empty_before, with_component, cut_at_commas, members_of}
 use Rattle.css_rules.specs.Signs.{kind_sign, open_sign, sign_of, place_of, is_comma}
-use Rattle.css_rules.proofs.FromSourceParts.{not-true}
+use Rattle.css_rules.proofs.CutLemmas.{not-true}
 use Rattle.css_rules.proofs.SelectorPlaces.{single-piece}
 use Rattle.css_rules.proofs.SelectorSpelling.{and-left, and-right, and-both}
 
@@ -243,5 +244,5 @@ none-found (p ∷ ps) h =
     let both = found-none p (is_sought Ampersand p) (find (is_sought Ampersand) ps) h in
     and-both (unsought p) (list_all unsought ps) both.0 (none-found ps both.1)
 
-pub list-not_nesting : (cs : List Component) → sought_in Ampersand cs ≡ [] → list_any is_nesting (bare_list (list_of cs)) ≡ false
+pub list-not_nesting : (cs : List Component) → sought_in Ampersand cs ≡ [] → list_any is_nesting (bare_list (selectors_in cs)) ≡ false
 list-not_nesting cs h = bare-members (members_of cs) (calm-cut cs (calm-components cs (none-found (pieces_all cs) h)))

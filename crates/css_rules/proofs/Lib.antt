@@ -1,5 +1,8 @@
+pub mod ReadAllLemmas
 pub mod CutLemmas
+pub mod CutMarks
 pub mod SoughtLemmas
+pub mod SoughtTold
 pub mod DeclarationLemmas
 pub mod RefusalLemmas
 pub mod ReaderLemmas
@@ -9,6 +12,8 @@ pub mod SelectorPlaces
 pub mod SelectorReadable
 pub mod SelectorReading
 pub mod SelectorReads
+pub mod ListsRead
+pub mod SheetsRead
 pub mod SelectorSpelling
 pub mod WritingLemmas
 pub mod Heads
@@ -19,6 +24,7 @@ pub mod DeclarationAgain
 pub mod SheetRound
 pub mod PreludeAgain
 pub mod RulesAgain
+pub mod RuleShapes
 pub mod FromSourceNames
 pub mod FromSourceParts
 pub mod FromSourceSelectors

@@ -1,19 +1,23 @@
 -- Cuts and declarations are the same but for places where the places of their tokens are at 0.
-use Rattle.std.proofs.Common.{◌≡◌, List, [], ◌∷◌, ◌++◌, map, flat_map, Bool, true, false, ◌&&◌, ◌||◌, not, Option, Some, None, refl, sym, ◌∙◌, ap, cond, codes, option_map}
+use Rattle.std.proofs.Common.{◌≡◌, List, [], ◌∷◌, ◌++◌, map, Bool, true, false, ◌&&◌, ◌||◌, not, Option, Some, None, refl, sym, ◌∙◌, ap, cond, codes, option_map, is_some}
 use Rattle.std.specs.List.{list_any, list_all}
-use Rattle.std.specs.Option.{option_to_list}
 use Rattle.std.proofs.lemmas.List.{map-append}
 use Rattle.css_tokens.specs.declared.component.Component.{Component}
 use Rattle.css_tokens.specs.Piece.{Piece}
 use Rattle.css_rules.specs.declared.sheet.Declaration.{Declaration}
 use Rattle.css_rules.specs.Components.{head, is_gap, is_ident, is_colon, is_semicolon, is_bang, is_braces, is_custom, is_keyword}
-use Rattle.css_rules.specs.Cuts.{Cut, cuts, with_front, trimmed, trimmed_start, trimmed_end}
-use Rattle.css_rules.specs.Declarations.{property_name, after_colon, may_be_value, is_important, value_of, declared, declared_after, declaration_of}
-use Rattle.css_rules.specs.Sheets.{declarations_of}
+use Rattle.css_rules.specs.Cuts.{Cut, cuts, cuts_at, cuts_behind, with_front, trimmed, trimmed_start, trimmed_end}
+use Rattle.css_rules.specs.Declarations.{property_name, after_colon, may_be_value, is_important, value_of, declared, declared_after, declaration_of, begins_custom}
+use Rattle.css_rules.specs.declared.refusal.Sought.{Sought}
+use Rattle.css_rules.specs.ReadAll.{read_all}
+use Rattle.css_rules.specs.Refusals.{has_sought, is_unbuilt_property, sought_for}
+use Rattle.css_rules.specs.Sheets.{begins_at_rule, built, declarations_of, ends_in_braces, ends_item, ends_rule, is_rule, is_unbuilt, item_of, plain_item}
+use Rattle.css_rules.proofs.ReadAllLemmas.{mapped-all}
+use Rattle.css_rules.proofs.SoughtAgain.{sought-words, word_sought}
 use Rattle.css_rules.specs.Runs.{bare_declaration}
-use Rattle.css_rules.proofs.PlacesTrees.{bare_value-erased}
+use Rattle.css_rules.proofs.PlacesTrees.{bare_value-erased, words-erased}
 use Rattle.css_rules.specs.Erased.{placeless, erased}
-use Rattle.css_rules.proofs.PlacesLayers.{head-erased, gap-erased, ident-erased, colon-erased, semicolon-erased, bang-erased, braces-erased}
+use Rattle.css_rules.proofs.PlacesLayers.{head-erased, gap-erased, ident-erased, at-erased, colon-erased, semicolon-erased, bang-erased, braces-erased}
 
 -- Lists.
 
@@ -35,18 +39,21 @@ front-erased : (c : Component) (cs : List Cut) → with_front (erased c) (map er
 front-erased c [] = refl
 front-erased c (cut ∷ cs) = refl
 
-cut-at : (c : Component) (rest : List Cut) (b : Bool)
-    → cond b (record { front = []; mark = Some (erased c) } ∷ map erased_cut rest) (with_front (erased c) (map erased_cut rest))
-    ≡ map erased_cut (cond b (record { front = []; mark = Some c } ∷ rest) (with_front c rest))
-cut-at c rest true = refl
-cut-at c rest false = front-erased c rest
+cut-at : (c : Component) (rest more : List Cut) (b : Bool)
+    → cond b (record { front = []; mark = Some (erased c) } ∷ map erased_cut rest) (with_front (erased c) (map erased_cut more))
+    ≡ map erased_cut (cond b (record { front = []; mark = Some c } ∷ rest) (with_front c more))
+cut-at c rest more true = refl
+cut-at c rest more false = front-erased c more
 
-pub cuts-erased : (test : Component → Bool) (same : (c : Component) → test (erased c) ≡ test c) (cs : List Component) → cuts test (map erased cs) ≡ map erased_cut (cuts test cs)
-cuts-erased test same [] = refl
-cuts-erased test same (c ∷ cs) =
-    ap (λ b. cond b (record { front = []; mark = Some (erased c) } ∷ cuts test (map erased cs)) (with_front (erased c) (cuts test (map erased cs)))) (same c)
-    ∙ ap (λ rest. cond (test c) (record { front = []; mark = Some (erased c) } ∷ rest) (with_front (erased c) rest)) (cuts-erased test same cs)
-    ∙ cut-at c (cuts test cs) (test c)
+pub cuts-erased : (ends : List Component → Component → Bool) (same : (before : List Component) (c : Component) → ends (map erased before) (erased c) ≡ ends before c)
+    → (before cs : List Component) → cuts_behind ends (map erased before) (map erased cs) ≡ map erased_cut (cuts_behind ends before cs)
+cuts-erased ends same before [] = refl
+cuts-erased ends same before (c ∷ cs) =
+    ap (λ b. cond b (record { front = []; mark = Some (erased c) } ∷ cuts ends (map erased cs)) (with_front (erased c) (cuts_behind ends (map erased before ++ erased c ∷ []) (map erased cs)))) (same before c)
+    ∙ ap (λ rest. cond (ends before c) (record { front = []; mark = Some (erased c) } ∷ rest) (with_front (erased c) (cuts_behind ends (map erased before ++ erased c ∷ []) (map erased cs)))) (cuts-erased ends same [] cs)
+    ∙ ap (λ behind. cond (ends before c) (record { front = []; mark = Some (erased c) } ∷ map erased_cut (cuts ends cs)) (with_front (erased c) (cuts_behind ends behind (map erased cs)))) (sym (map-append erased before (c ∷ [])))
+    ∙ ap (λ rest. cond (ends before c) (record { front = []; mark = Some (erased c) } ∷ map erased_cut (cuts ends cs)) (with_front (erased c) rest)) (cuts-erased ends same (before ++ c ∷ []) cs)
+    ∙ cut-at c (cuts ends cs) (cuts_behind ends (before ++ c ∷ []) cs) (ends before c)
 
 -- Ends.
 
@@ -54,7 +61,7 @@ start-at : (c : Component) (cs : List Component) (b : Bool) → cond b (map eras
 start-at c cs true = refl
 start-at c cs false = refl
 
-start-erased : (cs : List Component) → trimmed_start (map erased cs) ≡ map erased (trimmed_start cs)
+pub start-erased : (cs : List Component) → trimmed_start (map erased cs) ≡ map erased (trimmed_start cs)
 start-erased [] = refl
 start-erased (c ∷ cs) =
     ap (λ b. cond b (trimmed_start (map erased cs)) (erased c ∷ map erased cs)) (gap-erased c)
@@ -132,9 +139,9 @@ declared-erased name (Some v) =
 declared_after-erased : (name : Piece) (o : Option (List Component)) → declared_after (placeless name) (option_map (map erased) o) ≡ option_map erased_declaration (declared_after name o)
 declared_after-erased name None = refl
 declared_after-erased name (Some tail) =
-    ap (λ cs. declared (placeless name) (value_of cs)) (cuts-erased is_bang bang-erased tail)
-    ∙ ap (declared (placeless name)) (value-erased (cuts is_bang tail))
-    ∙ declared-erased name (value_of (cuts is_bang tail))
+    ap (λ cs. declared (placeless name) (value_of cs)) (cuts-erased (λ before c. is_bang c) (λ before c. bang-erased c) [] tail)
+    ∙ ap (declared (placeless name)) (value-erased (cuts_at is_bang tail))
+    ∙ declared-erased name (value_of (cuts_at is_bang tail))
 
 declaration-at : (o : Option Declaration) (b : Bool) → cond b (option_map erased_declaration o) None ≡ option_map erased_declaration (cond b o None)
 declaration-at o true = refl
@@ -150,29 +157,77 @@ declaration-erased (c ∷ cs) =
     ∙ ap (λ o. cond (is_ident c) o None) (declared_after-erased (head c) (after_colon (trimmed_start cs)))
     ∙ declaration-at (declared_after (head c) (after_colon (trimmed_start cs))) (is_ident c)
 
--- the declarations that a cut spells
-abbrev of_cut : Cut → List Declaration
-of_cut cut = option_to_list (declaration_of (trimmed cut.front))
+-- Items of a block.
 
-list-option : (o : Option Declaration) → option_to_list (option_map erased_declaration o) ≡ map erased_declaration (option_to_list o)
-list-option None = refl
-list-option (Some d) = refl
+some-erased : (o : Option (List Component)) → is_some (option_map (map erased) o) ≡ is_some o
+some-erased None = refl
+some-erased (Some cs) = refl
 
-of_cut-erased : (cut : Cut) → of_cut (erased_cut cut) ≡ map erased_declaration (of_cut cut)
-of_cut-erased cut =
-    ap (λ cs. option_to_list (declaration_of cs)) (trimmed-erased cut.front)
-    ∙ ap option_to_list (declaration-erased (trimmed cut.front))
-    ∙ list-option (declaration_of (trimmed cut.front))
+custom-erased : (cs : List Component) → begins_custom (map erased cs) ≡ begins_custom cs
+custom-erased [] = refl
+custom-erased (c ∷ cs) =
+    ap (λ b. b && (is_custom (head (erased c)).text && is_some (after_colon (trimmed_start (map erased cs))))) (ident-erased c)
+    ∙ ap (λ (p : Piece). is_ident c && (is_custom p.text && is_some (after_colon (trimmed_start (map erased cs))))) (head-erased c)
+    ∙ ap (λ tail. is_ident c && (is_custom (head c).text && is_some (after_colon tail))) (start-erased cs)
+    ∙ ap (λ b. is_ident c && (is_custom (head c).text && b)) (ap is_some (after-erased (trimmed_start cs)) ∙ some-erased (after_colon (trimmed_start cs)))
 
-of_cuts-erased : (cs : List Cut) → flat_map of_cut (map erased_cut cs) ≡ map erased_declaration (flat_map of_cut cs)
-of_cuts-erased [] = refl
-of_cuts-erased (cut ∷ cs) =
-    ap (λ ds. ds ++ flat_map of_cut (map erased_cut cs)) (of_cut-erased cut)
-    ∙ ap (λ ds. map erased_declaration (of_cut cut) ++ ds) (of_cuts-erased cs)
-    ∙ sym (map-append erased_declaration (of_cut cut) (flat_map of_cut cs))
+ends_item-erased : (before : List Component) (c : Component) → ends_item (map erased before) (erased c) ≡ ends_item before c
+ends_item-erased before c =
+    ap (λ b. b || (is_braces (erased c) && not (begins_custom (trimmed_start (map erased before))))) (semicolon-erased c)
+    ∙ ap (λ b. is_semicolon c || (b && not (begins_custom (trimmed_start (map erased before))))) (braces-erased c)
+    ∙ ap (λ b. is_semicolon c || (is_braces c && not b)) (ap begins_custom (start-erased before) ∙ custom-erased (trimmed_start before))
 
-pub declarations-erased : (block : List Component) → declarations_of (map erased block) ≡ map erased_declaration (declarations_of block)
-declarations-erased block = ap (flat_map of_cut) (cuts-erased is_semicolon semicolon-erased block) ∙ of_cuts-erased (cuts is_semicolon block)
+pub at_rule-erased : (cs : List Component) → begins_at_rule (map erased cs) ≡ begins_at_rule cs
+at_rule-erased [] = refl
+at_rule-erased (c ∷ cs) = at-erased c
+
+pub ends_rule-erased : (before : List Component) (c : Component) → ends_rule (map erased before) (erased c) ≡ ends_rule before c
+ends_rule-erased before c =
+    ap (λ b. b || (is_semicolon (erased c) && begins_at_rule (trimmed_start (map erased before)))) (braces-erased c)
+    ∙ ap (λ b. is_braces c || (b && begins_at_rule (trimmed_start (map erased before)))) (semicolon-erased c)
+    ∙ ap (λ b. is_braces c || (is_semicolon c && b)) (ap begins_at_rule (start-erased before) ∙ at_rule-erased (trimmed_start before))
+
+mark-erased : (o : Option Component) → ends_in_braces (option_map erased o) ≡ ends_in_braces o
+mark-erased None = refl
+mark-erased (Some c) = braces-erased c
+
+pub sought-erased : (sought : Sought) (cs : List Component) → has_sought sought (map erased cs) ≡ has_sought sought cs
+sought-erased sought cs =
+    sought-words sought (map erased cs) ∙ ap (list_any (word_sought sought)) (words-erased cs) ∙ sym (sought-words sought cs)
+
+abbrev made_of : Bool → Declaration → Option (List Declaration)
+made_of waits d = cond waits None (Some (d ∷ []))
+
+made-at : (d : Declaration) (b : Bool) → made_of b (erased_declaration d) ≡ option_map (map erased_declaration) (made_of b d)
+made-at d true = refl
+made-at d false = refl
+
+built-erased : (o : Option Declaration) → built (option_map erased_declaration o) ≡ option_map (map erased_declaration) (built o)
+built-erased None = refl
+built-erased (Some d) =
+    ap (λ b. made_of (is_unbuilt_property d.name || b) (erased_declaration d)) (sought-erased (sought_for d.name) d.value)
+    ∙ made-at d (is_unbuilt d)
+
+plain-erased : (cs : List Component) → plain_item (map erased cs) ≡ option_map (map erased_declaration) (plain_item cs)
+plain-erased [] = refl
+plain-erased (c ∷ cs) = ap built (declaration-erased (c ∷ cs)) ∙ built-erased (declaration_of (c ∷ cs))
+
+unless-at : (o : Option (List Declaration)) (b : Bool) → cond b None (option_map (map erased_declaration) o) ≡ option_map (map erased_declaration) (cond b None o)
+unless-at o true = refl
+unless-at o false = refl
+
+item-erased : (cut : Cut) → option_map (map erased_declaration) (item_of cut) ≡ item_of (erased_cut cut)
+item-erased cut =
+    sym (ap (λ (cs : List Component). cond (begins_at_rule cs || ends_in_braces (option_map erased cut.mark)) None (plain_item cs)) (trimmed-erased cut.front)
+    ∙ ap (λ b. cond (b || ends_in_braces (option_map erased cut.mark)) None (plain_item (map erased (trimmed cut.front)))) (at_rule-erased (trimmed cut.front))
+    ∙ ap (λ b. cond (begins_at_rule (trimmed cut.front) || b) None (plain_item (map erased (trimmed cut.front)))) (mark-erased cut.mark)
+    ∙ ap (λ o. cond (is_rule cut) None o) (plain-erased (trimmed cut.front))
+    ∙ unless-at (plain_item (trimmed cut.front)) (is_rule cut))
+
+pub declarations-erased : (block : List Component) → declarations_of (map erased block) ≡ option_map (map erased_declaration) (declarations_of block)
+declarations-erased block =
+    ap (read_all item_of) (cuts-erased ends_item ends_item-erased [] block)
+    ∙ sym (mapped-all (map erased_declaration) item_of item_of erased_cut refl (λ xs ys. map-append erased_declaration xs ys) item-erased (cuts ends_item block))
 
 bare-erased : (d : Declaration) → bare_declaration (erased_declaration d) ≡ bare_declaration d
 bare-erased d = ap (λ value. record { name = d.name; value = value; important = d.important }) (bare_value-erased d.value)

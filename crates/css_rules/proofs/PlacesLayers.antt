@@ -5,7 +5,7 @@ use Rattle.css_tokens.specs.declared.component.Component.TheOpen.{Single, Block}
 use Rattle.css_tokens.specs.declared.component.Component.TheVariants.{outs-Single, outs-Block}
 use Rattle.css_tokens.specs.Piece.{Piece}
 use Rattle.css_tokens.specs.Trees.{is_text}
-use Rattle.css_rules.specs.Components.{Layer, layer_head, layer_is_single, layer_items, head, inside, is_gap, is_ident, is_colon, is_semicolon, is_bang, is_braces, is_gap_kind, is_ident_kind, is_colon_kind, is_semicolon_kind, is_delim_kind}
+use Rattle.css_rules.specs.Components.{Layer, layer_head, layer_is_single, layer_items, head, inside, is_gap, is_ident, is_at_keyword, is_colon, is_semicolon, is_bang, is_braces, is_gap_kind, is_ident_kind, is_at_kind, is_colon_kind, is_semicolon_kind, is_delim_kind}
 use Rattle.css_rules.specs.Signs.{sign_of, is_comma, open_sign, open_comma}
 use Rattle.css_rules.proofs.ValueFacts.{shape_of}
 use Rattle.css_rules.proofs.SelectorPlaces.{unplaced, sign-unplaced}
@@ -55,6 +55,9 @@ gap-erased = tested (λ b p. b && is_gap_kind p.kind) (λ b p. refl)
 
 pub ident-erased : (c : Component) → is_ident (erased c) ≡ is_ident c
 ident-erased = tested (λ b p. b && is_ident_kind p.kind) (λ b p. refl)
+
+pub at-erased : (c : Component) → is_at_keyword (erased c) ≡ is_at_keyword c
+at-erased = tested (λ b p. b && is_at_kind p.kind) (λ b p. refl)
 
 pub colon-erased : (c : Component) → is_colon (erased c) ≡ is_colon c
 colon-erased = tested (λ b p. b && is_colon_kind p.kind) (λ b p. refl)

@@ -1,4 +1,4 @@
--- A printed prelude, behind a line feed or not, is read as its selectors and refused for nothing.
+-- A printed prelude, behind a line feed or not, is read as its selectors.
 use Rattle.std.proofs.Common.{◌≡◌, ℕ, List, [], ◌∷◌, ◌++◌, map, flat_map, Bool, true, false, ◌||◌, not, Option, Some, None, refl, sym, ◌∙◌, ap, cond, codes, unwrap_or, is_some, find}
 use Rattle.std.specs.List.{list_any, filter_map, cons_option}
 use Rattle.std.specs.Option.{option_map}
@@ -7,6 +7,7 @@ use Rattle.css_tokens.specs.declared.component.Component.{Component}
 use Rattle.css_tokens.specs.declared.component.Component.TheVariants.{outs-Single}
 use Rattle.css_tokens.specs.Piece.{Piece, Word, word_of}
 use Rattle.css_tokens.specs.Trees.{words_all, pieces_all, pieces_of-Single}
+use Rattle.css_rules.specs.Private.SelectorSteps.{selectors_in}
 use Rattle.css_rules.specs.declared.selector.Combinator.{Combinator}
 use Rattle.css_rules.specs.declared.selector.Combinator.TheVariants as combinators
 use Rattle.css_rules.specs.declared.selector.TypeName.{TypeName}
@@ -18,19 +19,20 @@ use Rattle.css_rules.specs.declared.selector.sign.Sign.TheVariants as signs
 use Rattle.css_rules.specs.declared.refusal.Sought.{Sought}
 use Rattle.css_rules.specs.declared.refusal.Sought.TheVariants.{ColonOrBracket, Ampersand}
 use Rattle.css_rules.proofs.SelectorSpelling.{words-again}
-use Rattle.css_rules.specs.BareSelectors.{BareCompound, BareSelector, bare_list}
-use Rattle.css_rules.specs.Components.{is_at_keyword, is_at_kind}
+use Rattle.css_rules.specs.BareSelectors.{BareCompound, BareSelector}
+use Rattle.css_rules.specs.Components.{is_at_keyword, is_at_kind, is_semicolon, is_semicolon_kind}
 use Rattle.css_rules.specs.Signs.{sign_of, open_sign, is_gap, open_gap, is_comma, open_comma, place_of}
 use Rattle.css_rules.specs.Selectors.{list_of, list_faults, cut_at_commas, with_component, selector_of, selector_at, selector_of_runs, runs_of, empty_before, fault_of, first_place, stripped, spaced, white_before, Member}
 use Rattle.css_rules.specs.SelectorWords.{word, ident, hash, delim, space, comma, type_words, simple_words, compound_words, combinator_words, links_words, lead_words, selector_words, more_words, list_words, single_of, list_again}
 use Rattle.css_rules.specs.SelectorTexts.{compound_text, ends_in_dashes}
-use Rattle.css_rules.specs.Refusals.{sought_in}
-use Rattle.css_rules.specs.Sheets.{prelude_refusals, prelude_refusals_by, first_fault}
+use Rattle.css_rules.specs.Refusals.{has_sought}
+use Rattle.css_rules.specs.Sheets.{prelude_of}
 use Rattle.css_rules.specs.SheetAgain.{line_feed}
 use Rattle.css_rules.specs.Printable.{is_parent, has_parent, is_nesting}
 use Rattle.css_rules.proofs.DeclarationLemmas.{or_false_left, or_false_right}
-use Rattle.css_rules.proofs.Heads.{piece_of, at-Single}
-use Rattle.css_rules.proofs.SoughtAgain.{word_sought, unsought-words}
+use Rattle.css_rules.proofs.Heads.{piece_of, at-Single, semicolon-Single}
+use Rattle.css_rules.proofs.SoughtAgain.{word_sought, sought-words}
+use Rattle.css_rules.proofs.ListsRead.{list-whole}
 
 any-both : (test : Word → Bool) (xs ys : List Word) → list_any test xs ≡ false → list_any test ys ≡ false → list_any test (xs ++ ys) ≡ false
 any-both test [] ys a b = b
@@ -174,7 +176,7 @@ feed-cut : (cs : List Component) → cut_at_commas (line_feed ∷ cs) ≡ (with_
 feed-cut cs =
     ap (λ b. cond b (empty_before (Some (place_of line_feed)), (cut_at_commas cs).0 ∷ (cut_at_commas cs).1) (with_component line_feed (cut_at_commas cs).0, (cut_at_commas cs).1)) feed-comma
 
-pub feed-list : (cs : List Component) → list_of (line_feed ∷ cs) ≡ list_of cs
+pub feed-list : (cs : List Component) → selectors_in (line_feed ∷ cs) ≡ selectors_in cs
 feed-list cs =
     ap (λ (cut : Member × List Member). cons_option (selector_of cut.0.components) (filter_map (λ m. selector_of m.components) cut.1)) (feed-cut cs)
     ∙ ap (λ o. cons_option o (filter_map (λ (m : Member). selector_of m.components) (cut_at_commas cs).1)) (feed-selector (cut_at_commas cs).0.components)
@@ -198,27 +200,36 @@ pub words-cons : (w : Word) (cs : List Component) → words_all (single_of w ∷
 words-cons w cs = ap (λ (ps : List Piece). map word_of (ps ++ pieces_all cs)) (pieces_of-Single (piece_of w))
 
 -- no token of a printed prelude is of these kinds
-unsought-front : (sought : Sought) (b : Bool) (cs : List Component) → word_sought sought (word kinds.White (10 ∷ [])) ≡ false → list_any (word_sought sought) (words_all cs) ≡ false → sought_in sought (lead_of b ++ cs) ≡ []
+unsought-front : (sought : Sought) (b : Bool) (cs : List Component) → word_sought sought (word kinds.White (10 ∷ [])) ≡ false → list_any (word_sought sought) (words_all cs) ≡ false → has_sought sought (lead_of b ++ cs) ≡ false
 unsought-front sought true cs feed none =
-    unsought-words sought (line_feed ∷ cs)
-    (ap (list_any (word_sought sought)) (words-cons (word kinds.White (10 ∷ [])) cs) ∙ ap (λ b. b || list_any (word_sought sought) (words_all cs)) feed ∙ none)
-unsought-front sought false cs feed none = unsought-words sought cs none
+    sought-words sought (line_feed ∷ cs)
+    ∙ ap (list_any (word_sought sought)) (words-cons (word kinds.White (10 ∷ [])) cs) ∙ ap (λ b. b || list_any (word_sought sought) (words_all cs)) feed ∙ none
+unsought-front sought false cs feed none = sought-words sought cs ∙ none
 
--- a printed prelude is refused for nothing
-pub prelude-again : (b : Bool) (bs : List BareSelector) (end : ℕ) → list_any is_nesting bs ≡ false → list_faults (list_again bs) end ≡ [] → prelude_refusals (lead_of b ++ list_again bs) end ≡ []
-prelude-again b bs end nesting sound =
+-- a printed prelude is read as its selectors
+pub prelude-again : (b : Bool) (bs : List BareSelector) → list_any is_nesting bs ≡ false → list_faults (list_again bs) 0 ≡ [] → prelude_of (lead_of b ++ list_again bs) ≡ Some (selectors_in (list_again bs))
+prelude-again b bs nesting sound =
     let front = lead_of b ++ list_again bs in
     let words = words-again (list_words bs) in
     let colon = unsought-front ColonOrBracket b (list_again bs) refl (ap (list_any (word_sought ColonOrBracket)) words ∙ any-list (word_sought ColonOrBracket) colon_foreign bs nesting) in
     let ampersand = unsought-front Ampersand b (list_again bs) refl (ap (list_any (word_sought Ampersand)) words ∙ any-list (word_sought Ampersand) ampersand_foreign bs nesting) in
-    ap (λ rs. prelude_refusals_by rs front end) colon
-    ∙ ap (λ rs. rs ++ first_fault (list_faults front end)) ampersand
-    ∙ ap first_fault (faults b)
+    ap (λ waits. cond (waits || has_sought Ampersand front) None (list_of front)) colon
+    ∙ ap (λ waits. cond waits None (list_of front)) ampersand
+    ∙ lead b
   where
-    faults : (b : Bool) → list_faults (lead_of b ++ list_again bs) end ≡ []
-    faults true = feed-faults (list_again bs) end ∙ sound
-    faults false = sound
+    lead : (b : Bool) → list_of (lead_of b ++ list_again bs) ≡ Some (selectors_in (list_again bs))
+    lead true = list-whole (line_feed ∷ list_again bs) 0 (feed-faults (list_again bs) 0 ∙ sound) ∙ ap Some (feed-list (list_again bs))
+    lead false = list-whole (list_again bs) 0 sound
 
-pub bare-lead : (b : Bool) (cs : List Component) → bare_list (list_of (lead_of b ++ cs)) ≡ bare_list (list_of cs)
-bare-lead true cs = ap bare_list (feed-list cs)
-bare-lead false cs = refl
+-- no semicolon stands in it
+semicolon_foreign : IsForeign (λ w. is_semicolon_kind w.kind)
+semicolon_foreign = record { of_ident = λ n. refl; of_hash = λ n. refl; of_star = refl; of_dot = refl; of_child = refl; of_next = refl; of_later = refl; of_space = refl; of_comma = refl }
+
+pub undivided-list : (bs : List BareSelector) → list_any is_nesting bs ≡ false → list_any is_semicolon (list_again bs) ≡ false
+undivided-list bs e = singles (list_words bs) (any-list (λ w. is_semicolon_kind w.kind) semicolon_foreign bs e)
+  where
+    singles : (ws : List Word) → list_any (λ (w : Word). is_semicolon_kind w.kind) ws ≡ false → list_any is_semicolon (map single_of ws) ≡ false
+    singles [] e = refl
+    singles (w ∷ ws) e =
+        ap (λ b. b || list_any is_semicolon (map single_of ws)) (semicolon-Single (piece_of w) ∙ or_false_left (is_semicolon_kind w.kind) (list_any (λ (w : Word). is_semicolon_kind w.kind) ws) e)
+        ∙ singles ws (or_false_right (is_semicolon_kind w.kind) (list_any (λ (w : Word). is_semicolon_kind w.kind) ws) e)

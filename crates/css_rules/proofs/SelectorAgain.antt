@@ -7,6 +7,7 @@ use Rattle.std.proofs.lemmas.List.{map-append, append-nil}
 use Rattle.css_tokens.specs.declared.component.Component.{Component}
 use Rattle.css_tokens.specs.Piece.{Word}
 use Rattle.css_tokens.specs.Trees.{words_all}
+use Rattle.css_rules.specs.Private.SelectorSteps.{selectors_in}
 use Rattle.css_rules.specs.declared.selector.Combinator.{Combinator}
 use Rattle.css_rules.specs.declared.selector.Combinator.TheVariants as combinators
 use Rattle.css_rules.specs.declared.selector.TypeName.{TypeName}
@@ -19,7 +20,7 @@ use Rattle.css_rules.specs.declared.selector.sign.Sign.TheVariants.{White, Child
 use Rattle.css_tokens.specs.NameText.{name_text}
 use Rattle.css_tokens.specs.PlainNames.{is_plain_name}
 use Rattle.css_rules.specs.Signs.{is_comma_kind}
-use Rattle.css_rules.specs.Selectors.{parts_of, compound_with, compound_of, stripped, white_before, spaced, clean_signs, Runs, cut_by, run_before, runs_of, links_of, selector_of_runs, list_of, list_faults}
+use Rattle.css_rules.specs.Selectors.{parts_of, compound_with, compound_of, stripped, white_before, spaced, clean_signs, Runs, cut_by, run_before, runs_of, links_of, selector_of_runs, list_faults}
 use Rattle.css_rules.specs.BareSelectors.{BareCompound, BareSelector, bare_list}
 use Rattle.css_rules.specs.ReadableSelectors.{is_readable_type, is_readable_simple, has_type, has_simples, is_readable_compound, is_readable_selector, is_readable_list}
 use Rattle.css_rules.specs.SelectorTexts.{compound_text, ends_in_dashes}
@@ -357,7 +358,7 @@ module _ (named : (n : List ℕ) → is_plain_name n ≡ true → name_text n �
   members-given : (b : BareSelector) (bs : List BareSelector) (cs : List Component) → words_all cs ≡ words_all (list_again (b ∷ bs)) → word_members (words_all cs) ≡ map selector_signs (b ∷ bs)
   members-given b bs cs e = ap (λ (ws : List Word). word_members ws) (words-given (b ∷ bs) cs e) ∙ members-again b bs
 
-  pub again-same : (bs : List BareSelector) (cs : List Component) → is_readable_list bs ≡ true → words_all cs ≡ words_all (list_again bs) → bare_list (list_of cs) ≡ bs
+  pub again-same : (bs : List BareSelector) (cs : List Component) → is_readable_list bs ≡ true → words_all cs ≡ words_all (list_again bs) → bare_list (selectors_in cs) ≡ bs
   again-same [] cs h e = absurd (false≢true h)
   again-same (b ∷ bs) cs h e =
       list-words cs (plain-given (b ∷ bs) cs e)

@@ -13,6 +13,7 @@ use Rattle.css_tokens.specs.declared.component.Component.TheOpen.{Component-F, S
 use Rattle.css_tokens.specs.declared.component.Component.TheFolds.{fold-Component, fold_out-Component}
 use Rattle.css_tokens.specs.Piece.{Piece, Word, word_of}
 use Rattle.css_tokens.specs.Trees.{opens, closes, closing, component_pieces, block_pieces, pieces_of, pieces_all, words_all, is_text}
+use Rattle.css_rules.specs.Private.SelectorSteps.{selectors_in}
 use Rattle.css_rules.specs.declared.selector.Combinator.{Combinator}
 use Rattle.css_rules.specs.declared.selector.TypeName.{TypeName}
 use Rattle.css_rules.specs.declared.selector.TypeName.TheVariants as types
@@ -26,7 +27,7 @@ use Rattle.css_rules.specs.declared.selector.sign.Sign.{Sign}
 use Rattle.css_rules.specs.declared.selector.sign.Sign.TheVariants.{Comment, White, Child, Next, Later, Name, Star, Dot, Id, Parent, Other}
 use Rattle.css_tokens.specs.PlainNames.{is_plain_name}
 use Rattle.css_rules.specs.Signs.{kind_sign, sign_of, place_of, is_comma, is_comma_kind, open_sign, open_comma}
-use Rattle.css_rules.specs.Selectors.{with_part, parts_of, compound_with, compound_of, stripped, white_before, sign_before, spaced, clean_signs, Runs, run_before, runs_of, with_link, links_of, selector_with, selector_of_runs, selector_at, first_place, selector_of, Member, empty_before, with_component, cut_at_commas, members_of, fault_of, list_of, list_faults}
+use Rattle.css_rules.specs.Selectors.{with_part, parts_of, compound_with, compound_of, stripped, white_before, sign_before, spaced, clean_signs, Runs, run_before, runs_of, with_link, links_of, selector_with, selector_of_runs, selector_at, first_place, selector_of, Member, empty_before, with_component, cut_at_commas, members_of, fault_of, list_faults}
 use Rattle.css_rules.specs.BareSelectors.{BareCompound, BareSelector, bare_compound, bare_link, bare_selector, bare_list}
 
 -- Signs without places.
@@ -217,7 +218,7 @@ links-unplaced (r ∷ rs) =
 abbrev pub reading_of : List Sign → Option BareSelector
 reading_of ws = selector_read (selector_at 0 ws)
 
-reading-unplaced : (at : ℕ) (ws : List Sign) → selector_read (selector_at at ws) ≡ reading_of (map unplaced ws)
+pub reading-unplaced : (at : ℕ) (ws : List Sign) → selector_read (selector_at at ws) ≡ reading_of (map unplaced ws)
 reading-unplaced at ws =
     let runs = runs_of (clean_signs ws) in
     read-selector at (compound_of runs.first) (links_of runs.rest)
@@ -374,7 +375,7 @@ list-read (m ∷ ms) =
     ∙ ap (λ (bs : List BareSelector). cons_option (reading_of (member_signs m)) bs) (list-read ms)
 
 -- What a list reads as, places aside, is told by its words.
-pub list-words : (cs : List Component) → list_all is_plain (words_all cs) ≡ true → bare_list (list_of cs) ≡ filter_map reading_of (word_members (words_all cs))
+pub list-words : (cs : List Component) → list_all is_plain (words_all cs) ≡ true → bare_list (selectors_in cs) ≡ filter_map reading_of (word_members (words_all cs))
 list-words cs h = list-read (members_of cs) ∙ ap (λ (ms : List (List Sign)). filter_map reading_of ms) (members-words cs h)
 
 abbrev pub is_read : List Sign → Bool

@@ -10,6 +10,7 @@ use Rattle.css_tokens.specs.declared.component.Block as block
 use Rattle.css_tokens.specs.declared.component.Component.TheOpen.{Component-F, Single, Block}
 use Rattle.css_tokens.specs.Piece.{Piece, word_of}
 use Rattle.css_tokens.specs.Trees.{pieces_of, pieces_all, words_all}
+use Rattle.css_rules.specs.Private.SelectorSteps.{selectors_in}
 use Rattle.css_rules.specs.declared.selector.Combinator.{Combinator}
 use Rattle.css_rules.specs.declared.selector.TypeName.{TypeName}
 use Rattle.css_rules.specs.declared.selector.TypeName.TheVariants as types
@@ -23,7 +24,7 @@ use Rattle.css_rules.specs.declared.selector.sign.Sign.{Sign}
 use Rattle.css_rules.specs.declared.selector.sign.Sign.TheVariants.{Comment, White, Child, Next, Later, Name, Star, Dot, Id, Parent, Other}
 use Rattle.css_tokens.specs.PlainNames.{is_plain_name}
 use Rattle.css_rules.specs.Signs.{kind_sign, sign_of, place_of, is_comma, open_sign}
-use Rattle.css_rules.specs.Selectors.{with_part, parts_of, compound_with, compound_of, stripped, white_before, sign_before, spaced, clean_signs, Runs, run_before, runs_of, links_of, selector_at, first_place, selector_of, Member, empty_before, with_component, cut_at_commas, members_of, fault_of, list_of, list_faults}
+use Rattle.css_rules.specs.Selectors.{with_part, parts_of, compound_with, compound_of, stripped, white_before, sign_before, spaced, clean_signs, Runs, run_before, runs_of, links_of, selector_at, first_place, selector_of, Member, empty_before, with_component, cut_at_commas, members_of, fault_of, list_faults}
 use Rattle.css_rules.specs.BareSelectors.{BareCompound, BareSelector, bare_list}
 use Rattle.css_rules.specs.ReadableSelectors.{is_readable_type, is_readable_simple, has_type, has_simples, is_readable_compound, is_readable_selector, has_selectors, is_readable_list, is_spelled, is_spelled_kind}
 use Rattle.css_rules.proofs.SelectorPlaces.{single-piece, simples_read, compound_read, links_read, selector_read, with_read_part, with_read_link, bare_with, bare_of_type, read-part, read-kind, read-link, read-selector}
@@ -354,10 +355,10 @@ has-cons : (o : Option Selector) (ss : List Selector) → is_some o ≡ true →
 has-cons None ss e = absurd (false≢true e)
 has-cons (Some s) ss e = refl
 
-pub readable-list : (cs : List Component) (end : ℕ) → list_all is_spelled (words_all cs) ≡ true → list_faults cs end ≡ [] → is_readable_list (bare_list (list_of cs)) ≡ true
+pub readable-list : (cs : List Component) (end : ℕ) → list_all is_spelled (words_all cs) ≡ true → list_faults cs end ≡ [] → is_readable_list (bare_list (selectors_in cs)) ≡ true
 readable-list cs end h e =
     let parts = cut_at_commas cs in
     let m = parts.0 in
-    and-both (has_selectors (bare_list (list_of cs))) (list_all is_readable_selector (bare_list (list_of cs)))
+    and-both (has_selectors (bare_list (selectors_in cs))) (list_all is_readable_selector (bare_list (selectors_in cs)))
     (has-cons (selector_of m.components) (filter_map (λ x. selector_of x.components) parts.1) (no-fault (is_some (selector_of m.components)) (unwrap_or (first_place m.components) (unwrap_or m.stop end)) (filter_map (fault_of end) parts.1) e))
     (test-members (members_of cs) (good-cut cs (good-components cs h)))

@@ -23,8 +23,8 @@ use Rattle.css_rules.specs.declared.selector.read.Phase.TheVariants.{Due, Inside
 use Rattle.css_rules.specs.declared.selector.read.Reading.{Reading}
 use Rattle.css_rules.specs.declared.selector.read.Pending.{Pending}
 use Rattle.css_rules.specs.Signs.{sign_of, place_of, is_gap, is_comma}
-use Rattle.css_rules.specs.Selectors.{with_part, parts_of, compound_with, compound_of, stripped, white_before, sign_before, spaced, Runs, runs_of, with_link, links_of, selector_with, first_place, selector_of, Member, empty_before, with_component, cut_at_commas, fault_of, list_of, list_faults}
-use Rattle.css_rules.specs.Private.SelectorSteps.{link, joined, chained, of_type, with_simple, reading, step, concluded, fresh, pending_step, pending_run, pending_selector, pending_fault, list_from, faults_from}
+use Rattle.css_rules.specs.Selectors.{with_part, parts_of, compound_with, compound_of, stripped, white_before, sign_before, spaced, Runs, runs_of, with_link, links_of, selector_with, first_place, selector_of, Member, empty_before, with_component, cut_at_commas, fault_of, list_faults}
+use Rattle.css_rules.specs.Private.SelectorSteps.{link, joined, chained, of_type, with_simple, reading, step, concluded, fresh, pending_step, pending_run, pending_selector, pending_fault, list_from, faults_from, selectors_in}
 
 -- What a reading comes to, where these clean signs follow.
 
@@ -228,7 +228,7 @@ run-fault cs stop =
 
 -- Lists.
 
-pub list-fresh : (cs : List Component) → list_from fresh cs ≡ list_of cs
+pub list-fresh : (cs : List Component) → list_from fresh cs ≡ selectors_in cs
 list-fresh cs = ap (λ (o : Option Selector). cons_option o (filter_map (λ m. selector_of m.components) (cut_at_commas cs).1)) (run-selector (cut_at_commas cs).0.components)
 
 pub faults-fresh : (cs : List Component) (end : ℕ) → faults_from fresh cs end ≡ list_faults cs end
@@ -245,7 +245,7 @@ parts_at c cs comma =
     if comma then (empty_before (Some (place_of c)), (cut_at_commas cs).0 ∷ (cut_at_commas cs).1)
     else (with_component c (cut_at_commas cs).0, (cut_at_commas cs).1)
 
-list-comma : (p : Pending) (c : Component) (cs : List Component) → is_comma c ≡ true → list_from p (c ∷ cs) ≡ cons_option (pending_selector p) (list_of cs)
+list-comma : (p : Pending) (c : Component) (cs : List Component) → is_comma c ≡ true → list_from p (c ∷ cs) ≡ cons_option (pending_selector p) (selectors_in cs)
 list-comma p c cs e = ap (λ (b : Bool). from_parts p (parts_at c cs b)) e
 
 list-more : (p : Pending) (c : Component) (cs : List Component) → is_comma c ≡ false → list_from p (c ∷ cs) ≡ list_from (pending_step p c) cs
@@ -262,11 +262,11 @@ faults-more p c cs end e = ap (λ (b : Bool). refused_parts p end (parts_at c cs
 pub at-item : (cs : List Component) (i : ℕ) (c : Component) → i < length cs → c ≡ get_or cs i c → drop i cs ≡ c ∷ drop (i + 1) cs
 at-item cs i c h e = rw add-one (drop-cons cs i c h ∙ ap (λ (x : Component). x ∷ drop (suc i) cs) (sym e))
 
-pub read-comma : (list : List Selector) (p : Pending) (c : Component) (cs all : List Component) (s : Selector) → is_comma c ≡ true → pending_selector p ≡ Some s → list ++ list_from p (c ∷ cs) ≡ list_of all → (list ++ s ∷ []) ++ list_from fresh cs ≡ list_of all
+pub read-comma : (list : List Selector) (p : Pending) (c : Component) (cs all : List Component) (s : Selector) → is_comma c ≡ true → pending_selector p ≡ Some s → list ++ list_from p (c ∷ cs) ≡ selectors_in all → (list ++ s ∷ []) ++ list_from fresh cs ≡ selectors_in all
 read-comma list p c cs all s comma found before =
     append_assoc list (s ∷ []) (list_from fresh cs)
     ∙ ap (λ (xs : List Selector). list ++ (s ∷ xs)) (list-fresh cs)
-    ∙ ap (λ (o : Option Selector). list ++ cons_option o (list_of cs)) (sym found)
+    ∙ ap (λ (o : Option Selector). list ++ cons_option o (selectors_in cs)) (sym found)
     ∙ ap (λ (xs : List Selector). list ++ xs) (sym (list-comma p c cs comma))
     ∙ before
 
@@ -277,22 +277,32 @@ refused-comma p c cs all end comma sound before =
     ∙ sym (faults-comma p c cs end comma)
     ∙ before
 
-pub read-more : (list : List Selector) (p : Pending) (c : Component) (cs all : List Component) → is_comma c ≡ false → list ++ list_from p (c ∷ cs) ≡ list_of all → list ++ list_from (pending_step p c) cs ≡ list_of all
+pub read-more : (list : List Selector) (p : Pending) (c : Component) (cs all : List Component) → is_comma c ≡ false → list ++ list_from p (c ∷ cs) ≡ selectors_in all → list ++ list_from (pending_step p c) cs ≡ selectors_in all
 read-more list p c cs all e before = ap (λ (xs : List Selector). list ++ xs) (sym (list-more p c cs e)) ∙ before
 
 pub refused-more : (p : Pending) (c : Component) (cs all : List Component) (end : ℕ) → is_comma c ≡ false → faults_from p (c ∷ cs) end ≡ list_faults all end → faults_from (pending_step p c) cs end ≡ list_faults all end
 refused-more p c cs all end e before = sym (faults-more p c cs end e) ∙ before
 
 -- one turn of the loop at a comma
-pub comma-turn : (list list' : List Selector) (p p' : Pending) (c : Component) (here cs all : List Component) (s : Selector) (stop end : ℕ) → here ≡ c ∷ cs → is_comma c ≡ true → stop ≡ place_of c → pending_selector p ≡ Some s → pending_fault p stop ≡ None → list' ≡ list ++ s ∷ [] → p' ≡ fresh → list ++ list_from p here ≡ list_of all → faults_from p here end ≡ list_faults all end → (list' ++ list_from p' cs ≡ list_of all) × (faults_from p' cs end ≡ list_faults all end)
+pub comma-turn : (list list' : List Selector) (p p' : Pending) (c : Component) (here cs all : List Component) (s : Selector) (stop end : ℕ) → here ≡ c ∷ cs → is_comma c ≡ true → stop ≡ place_of c → pending_selector p ≡ Some s → pending_fault p stop ≡ None → list' ≡ list ++ s ∷ [] → p' ≡ fresh → list ++ list_from p here ≡ selectors_in all → faults_from p here end ≡ list_faults all end → (list' ++ list_from p' cs ≡ selectors_in all) × (faults_from p' cs end ≡ list_faults all end)
 comma-turn list list' p p' c here cs all s stop end e comma place found sound grown new read refused = (
   ap (λ (xs : List Selector). xs ++ list_from p' cs) grown ∙ ap (λ (q : Pending). (list ++ s ∷ []) ++ list_from q cs) new ∙ read-comma list p c cs all s comma found (ap (λ (xs : List Component). list ++ list_from p xs) (sym e) ∙ read),
   ap (λ (q : Pending). faults_from q cs end) new ∙ refused-comma p c cs all end comma (ap (λ (n : ℕ). pending_fault p n) (sym place) ∙ sound) (ap (λ (xs : List Component). faults_from p xs end) (sym e) ∙ refused),
 )
 
 -- one turn at another component
-pub more-turn : (list list' : List Selector) (p p' : Pending) (c : Component) (here cs all : List Component) (end : ℕ) → here ≡ c ∷ cs → is_comma c ≡ false → list' ≡ list → p' ≡ pending_step p c → list ++ list_from p here ≡ list_of all → faults_from p here end ≡ list_faults all end → (list' ++ list_from p' cs ≡ list_of all) × (faults_from p' cs end ≡ list_faults all end)
+pub more-turn : (list list' : List Selector) (p p' : Pending) (c : Component) (here cs all : List Component) (end : ℕ) → here ≡ c ∷ cs → is_comma c ≡ false → list' ≡ list → p' ≡ pending_step p c → list ++ list_from p here ≡ selectors_in all → faults_from p here end ≡ list_faults all end → (list' ++ list_from p' cs ≡ selectors_in all) × (faults_from p' cs end ≡ list_faults all end)
 more-turn list list' p p' c here cs all end e comma same new read refused = (
   ap (λ (xs : List Selector). xs ++ list_from p' cs) same ∙ ap (λ (q : Pending). list ++ list_from q cs) new ∙ read-more list p c cs all comma (ap (λ (xs : List Component). list ++ list_from p xs) (sym e) ∙ read),
   ap (λ (q : Pending). faults_from q cs end) new ∙ refused-more p c cs all end comma (ap (λ (xs : List Component). faults_from p xs end) (sym e) ∙ refused),
 )
+
+-- Behind the last component.
+
+pub list-end : (list new : List Selector) (p : Pending) (rest all : List Component) (s : Selector) → rest ≡ [] → list ++ list_from p rest ≡ selectors_in all → pending_selector p ≡ Some s → new ≡ list ++ s ∷ [] → new ≡ selectors_in all
+list-end list new p rest all s none read found made =
+    made ∙ ap (λ (o : Option Selector). list ++ cons_option o []) (sym found) ∙ ap (λ (cs : List Component). list ++ list_from p cs) (sym none) ∙ read
+
+pub faults-end : (p : Pending) (rest all : List Component) (end : ℕ) → rest ≡ [] → faults_from p rest end ≡ list_faults all end → pending_fault p end ≡ None → list_faults all end ≡ []
+faults-end p rest all end none refused sound =
+    sym refused ∙ ap (λ (cs : List Component). faults_from p cs end) none ∙ ap (λ (o : Option ℕ). cons_option o []) sound

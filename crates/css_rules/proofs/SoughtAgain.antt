@@ -1,7 +1,6 @@
 -- What is not sought in a value is not sought in its printed form.
-use Rattle.std.proofs.Common.{◌≡◌, ℕ, List, [], ◌∷◌, map, Bool, true, false, ◌&&◌, ◌||◌, Some, None, refl, sym, ◌∙◌, ap, cond, inl, inr, find}
+use Rattle.std.proofs.Common.{◌≡◌, ℕ, List, [], ◌∷◌, map, Bool, true, false, ◌&&◌, ◌||◌, refl, sym, ◌∙◌, ap, cond}
 use Rattle.std.specs.List.{list_any}
-use Rattle.std.proofs.lemmas.Bool.{cases_Bool}
 use Rattle.css_tokens.specs.declared.kind.Kind.{Kind}
 use Rattle.css_tokens.specs.declared.kind.Kind.TheVariants as kinds
 use Rattle.css_tokens.specs.declared.component.Component.{Component}
@@ -11,7 +10,7 @@ use Rattle.css_tokens.specs.Values.{is_gap, is_white, short_text, short_word, be
 use Rattle.css_tokens.specs.ValueAgain.{value_again}
 use Rattle.css_rules.specs.declared.refusal.Sought.{Sought}
 use Rattle.css_rules.specs.declared.refusal.Sought.TheVariants.{ColonOrBracket, Ampersand, RevertLayer, RevertLayerOrUrl}
-use Rattle.css_rules.specs.Refusals.{is_sought, unbuilt_at, sought_in}
+use Rattle.css_rules.specs.Refusals.{is_sought, has_sought}
 use Rattle.css_rules.proofs.DeclarationLemmas.{or_false_left, or_false_right}
 use Rattle.css_rules.proofs.ValueFacts.{ValueLaws}
 
@@ -25,28 +24,13 @@ sought-place Ampersand p = refl
 sought-place RevertLayer p = refl
 sought-place RevertLayerOrUrl p = refl
 
--- none is found where no word is sought
-pub unsought-words : (sought : Sought) (cs : List Component) → list_any (word_sought sought) (words_all cs) ≡ false → sought_in sought cs ≡ []
-unsought-words sought cs none = ap unbuilt_at (nothing (pieces_all cs) none)
+-- whether a token is sought is told by its word
+pub sought-words : (sought : Sought) (cs : List Component) → has_sought sought cs ≡ list_any (word_sought sought) (words_all cs)
+sought-words sought cs = same (pieces_all cs)
   where
-    nothing : (ps : List Piece) → list_any (word_sought sought) (map word_of ps) ≡ false → find (is_sought sought) ps ≡ None
-    nothing [] e = refl
-    nothing (p ∷ ps) e =
-        ap (λ b. cond b (Some p) (find (is_sought sought) ps)) (sym (sought-place sought p) ∙ or_false_left (word_sought sought (word_of p)) (list_any (word_sought sought) (map word_of ps)) e)
-        ∙ nothing ps (or_false_right (word_sought sought (word_of p)) (list_any (word_sought sought) (map word_of ps)) e)
-
--- and no word is sought where none is found
-pub words-unsought : (sought : Sought) (cs : List Component) → sought_in sought cs ≡ [] → list_any (word_sought sought) (words_all cs) ≡ false
-words-unsought sought cs none = nothing (pieces_all cs) none
-  where
-    nothing : (ps : List Piece) → unbuilt_at (find (is_sought sought) ps) ≡ [] → list_any (word_sought sought) (map word_of ps) ≡ false
-    nothing [] e = refl
-    nothing (p ∷ ps) e = elim (cases_Bool (is_sought sought p)) [
-      | inl found ↦ absurd (cc (sym (ap (λ b. unbuilt_at (cond b (Some p) (find (is_sought sought) ps))) found) ∙ e))
-      | inr other ↦
-          ap (λ b. b || list_any (word_sought sought) (map word_of ps)) (sought-place sought p ∙ other)
-          ∙ nothing ps (sym (ap (λ b. unbuilt_at (cond b (Some p) (find (is_sought sought) ps))) other) ∙ e)
-    ]
+    same : (ps : List Piece) → list_any (is_sought sought) ps ≡ list_any (word_sought sought) (map word_of ps)
+    same [] = refl
+    same (p ∷ ps) = ap (λ b. b || list_any (is_sought sought) ps) (sym (sought-place sought p)) ∙ ap (λ b. word_sought sought (word_of p) || b) (same ps)
 
 short-sought : (sought : Sought) (k : Kind) (text : List ℕ) → word_sought sought (record { kind = k; text = short_text k text }) ≡ word_sought sought (record { kind = k; text = text })
 short-sought ColonOrBracket kinds.Open text = refl
@@ -105,7 +89,8 @@ any-printed sought ws none =
     any-before_gap (word_sought sought) (after_gap word_kind spaced)
     (any-after_gap (word_sought sought) spaced (any-single_gaps (word_sought sought) short (any-short sought ws ∙ none)))
 
-pub unsought-again : ValueLaws → (sought : Sought) (v : List Component) → all_formed v ≡ true → sought_in sought v ≡ [] → sought_in sought (value_again v) ≡ []
+pub unsought-again : ValueLaws → (sought : Sought) (v : List Component) → all_formed v ≡ true → has_sought sought v ≡ false → has_sought sought (value_again v) ≡ false
 unsought-again laws sought v formed none =
-    unsought-words sought (value_again v)
-    (ap (list_any (word_sought sought)) (laws.words v formed) ∙ any-printed sought (words_all v) (words-unsought sought v none))
+    sought-words sought (value_again v)
+    ∙ ap (list_any (word_sought sought)) (laws.words v formed)
+    ∙ any-printed sought (words_all v) (sym (sought-words sought v) ∙ none)

@@ -1,5 +1,5 @@
 -- What stands in a text stands there in its parts: trimmed, and cut at marks.
-use Rattle.std.proofs.Common.{◌≡◌, ℕ, List, [], ◌∷◌, ◌++◌, Bool, true, false, refl, sym, ◌∙◌, ap, subst, append_assoc, cond, codes, Option, Some, None, inl, inr, MatchOption}
+use Rattle.std.proofs.Common.{◌≡◌, ℕ, List, [], ◌∷◌, ◌++◌, Bool, true, false, ◌||◌, refl, sym, ◌∙◌, ap, subst, append_assoc, cond, codes, Option, Some, None, inl, inr, MatchOption}
 use Rattle.std.specs.List.{list_all, AllByRecursion}
 use Rattle.std.proofs.lemmas.Bool.{false≢true, cases_Bool}
 use lib.Pointwise.{bytes_decides}
@@ -12,9 +12,10 @@ use Rattle.css_tokens.specs.Piece.{Piece, Word, word_of, spelled}
 use Rattle.css_tokens.specs.Tokens.{classes_of}
 use Rattle.css_tokens.specs.Trees.{is_text, words_all}
 use Rattle.css_tokens.specs.Values.{is_gap as is_gap_word}
-use Rattle.css_rules.specs.Components.{head, is_gap, is_gap_kind, is_semicolon, is_semicolon_kind, is_delim_kind, is_bang, is_ident, is_keyword}
-use Rattle.css_rules.specs.Cuts.{Cut, cuts, with_front, trimmed, trimmed_start, trimmed_end}
+use Rattle.css_rules.specs.Components.{head, is_gap, is_gap_kind, is_braces, is_semicolon, is_semicolon_kind, is_delim_kind, is_bang, is_ident, is_keyword}
+use Rattle.css_rules.specs.Cuts.{Cut, cuts_behind, with_front, trimmed, trimmed_start, trimmed_end}
 use Rattle.css_rules.specs.Declarations.{is_important}
+use Rattle.css_rules.specs.Sheets.{ends_in_braces}
 use Rattle.css_rules.proofs.CutAgain.{trimmed_end-solid}
 use Rattle.css_rules.proofs.CutLemmas.{cuts-unmarked, cuts-marked, trimmed_start-gap, trimmed_start-other}
 use Rattle.css_rules.proofs.Heads.{head-Single, ident-Block, gap-Single, gap-Block, semicolon-Single, semicolon-Block, bang-Single, bang-Block}
@@ -81,11 +82,14 @@ joins-longer test c (cut ∷ cs) xs joins = at cut.mark joins
     at None j = (ap (λ (t : List Component). c ∷ t) j.0, j.1)
     at (Some m) j = (j.0, j.1, ap (λ (t : List Component). c ∷ t) j.2, j.3)
 
-pub joins-cuts : (test : Component → Bool) (xs : List Component) → Joins test (cuts test xs) xs
-joins-cuts test [] = (refl, refl)
-joins-cuts test (c ∷ cs) = elim (cases_Bool (test c)) [
-  | inl marked ↦ subst (λ (all : List Cut). Joins test all (c ∷ cs)) (sym (cuts-marked test c cs marked)) (marked, cs, refl, joins-cuts test cs)
-  | inr unmarked ↦ subst (λ (all : List Cut). Joins test all (c ∷ cs)) (sym (cuts-unmarked test c cs unmarked)) (joins-longer test c (cuts test cs) cs (joins-cuts test cs))
+-- where only such a component ends what stands before it
+pub joins-cuts : (test : Component → Bool) (ends : List Component → Component → Bool) → ((before : List Component) (c : Component) → ends before c ≡ true → test c ≡ true)
+    → (before xs : List Component) → Joins test (cuts_behind ends before xs) xs
+joins-cuts test ends only before [] = (refl, refl)
+joins-cuts test ends only before (c ∷ cs) = elim (cases_Bool (ends before c)) [
+  | inl marked ↦ subst (λ (all : List Cut). Joins test all (c ∷ cs)) (sym (cuts-marked ends before c cs marked)) (only before c marked, cs, refl, joins-cuts test ends only [] cs)
+  | inr unmarked ↦ subst (λ (all : List Cut). Joins test all (c ∷ cs)) (sym (cuts-unmarked ends before c cs unmarked))
+      (joins-longer test c (cuts_behind ends (before ++ c ∷ []) cs) cs (joins-cuts test ends only (before ++ c ∷ []) cs))
 ]
 
 -- the mark, where there is one, stands before some text
@@ -111,6 +115,10 @@ trims (c ∷ cs) = at (trims cs) (list_all is_gap (c ∷ cs)) refl
     at rest false some =
         let same : trimmed_end (c ∷ cs) ≡ c ∷ trimmed_end cs = ap (λ t. cond t [] (c ∷ trimmed_end cs)) some in
         record { gaps = rest.gaps; whole = ap (λ (t : List Component). c ∷ t) rest.whole ∙ ap (λ (t : List Component). t ++ rest.gaps) (sym same); each = rest.each }
+
+-- what ends some item of a block
+abbrev pub ends_some_item : Component → Bool
+ends_some_item c = is_braces c || is_semicolon c
 
 module _ (laws : ReadingLaws) where
   end-stop : (test : Kind → Bool) (c : Component) (xs : List Component) (s : List ℕ) → ((k : Kind) → test k ≡ true → is_end_kind k ≡ true) → IsToken test c
@@ -143,24 +151,31 @@ module _ (laws : ReadingLaws) where
   pub stands-trimmed : (cs : List Component) (s : List ℕ) → is_stop (classes_of s) ≡ true → StandsAt cs s → StandsBefore (trimmed cs)
   stands-trimmed cs s stop stands = stands-end (trimmed_start cs) s stop (stands-start cs s stands)
 
-  -- Cut at semicolons, at blocks, and at a `!`.
+  -- Items of a block, marks, and a `!`.
 
-  pub semicolon-fronts : (cs : List Cut) (xs : List Component) (s : List ℕ) → Joins is_semicolon cs xs → StandsAt xs s → is_stop (classes_of s) ≡ true
-      → AllByRecursion (λ (cut : Cut). StandsBefore cut.front) cs
-  semicolon-fronts [] xs s joins stands stop = absurd joins
-  semicolon-fronts (cut ∷ cs) xs s joins stands stop = at cut.mark joins (λ rest j r. semicolon-fronts cs rest s j r stop)
+  -- what stands before a `;` or the end stands before a stop
+  abbrev pub FrontStands : Cut → Type 0
+  FrontStands cut = ends_in_braces cut.mark ≡ false → StandsBefore cut.front
+
+  pub item-fronts : (cs : List Cut) (xs : List Component) (s : List ℕ) → Joins ends_some_item cs xs → StandsAt xs s → is_stop (classes_of s) ≡ true → AllByRecursion FrontStands cs
+  item-fronts [] xs s joins stands stop = absurd joins
+  item-fronts (cut ∷ cs) xs s joins stands stop = at cut.mark joins (λ rest j r. item-fronts cs rest s j r stop)
     where
-      at : (o : Option Component) → JoinsAt is_semicolon cut.front o cs (λ rest. Joins is_semicolon cs rest) xs
-          → ((rest : List Component) → Joins is_semicolon cs rest → StandsAt rest s → AllByRecursion (λ (c : Cut). StandsBefore c.front) cs)
-          → StandsBefore cut.front × AllByRecursion (λ (c : Cut). StandsBefore c.front) cs
+      at : (o : Option Component) → JoinsAt ends_some_item cut.front o cs (λ rest. Joins ends_some_item cs rest) xs
+          → ((rest : List Component) → Joins ends_some_item cs rest → StandsAt rest s → AllByRecursion FrontStands cs)
+          → (ends_in_braces o ≡ false → StandsBefore cut.front) × AllByRecursion FrontStands cs
       at None j others =
           let front = subst (λ (t : List Component). StandsAt t s) j.0 stands in
-          (record { behind = s; stop = stop; reads = front.reads }, subst (λ (more : List Cut). AllByRecursion (λ (c : Cut). StandsBefore c.front) more) (sym j.1) tt)
+          (λ plain. record { behind = s; stop = stop; reads = front.reads }, subst (λ (more : List Cut). AllByRecursion FrontStands more) (sym j.1) tt)
       at (Some m) j others =
           let all = subst (λ (t : List Component). StandsAt t s) j.2 stands in
           let front = stands-front laws cut.front (m ∷ j.1) s all in
           let back = stands-back laws cut.front (m ∷ j.1) s all in (
-            record { behind = spelled (words_all (m ∷ j.1)) ++ s; stop = semicolon-stop m j.1 s j.0 back; reads = front.reads },
+            λ plain. record {
+              behind = spelled (words_all (m ∷ j.1)) ++ s;
+              stop = semicolon-stop m j.1 s (sym (ap (λ b. b || is_semicolon m) plain) ∙ j.0) back;
+              reads = front.reads;
+            },
             others j.1 j.3 (stands-tail laws m j.1 s back),
           )
 

@@ -1,8 +1,7 @@
 -- Each value of a sheet stands in the sheet's text before a stop.
-use Rattle.std.proofs.Common.{◌≡◌, ℕ, List, [], ◌∷◌, ◌++◌, Bool, true, false, refl, sym, ◌∙◌, ap, subst, Option, Some, None, flat_map}
+use Rattle.std.proofs.Common.{◌≡◌, ℕ, List, [], ◌∷◌, ◌++◌, Bool, true, false, ◌&&◌, ◌||◌, not, refl, sym, ◌∙◌, ap, subst, Option, Some, None, flat_map, inl, inr}
 use Rattle.std.specs.Prelude.{if◌then◌else◌}
 use Rattle.std.specs.List.{AllByRecursion}
-use Rattle.std.specs.Option.{option_to_list}
 use Rattle.std.proofs.lemmas.List.{append-nil}
 use Rattle.std.proofs.lemmas.List.Concat.{flat_map-append}
 use Rattle.css_tokens.specs.declared.component.Component.{Component}
@@ -15,16 +14,18 @@ use Rattle.css_rules.specs.declared.sheet.Declaration.{Declaration}
 use Rattle.css_rules.specs.declared.sheet.Item.{Item}
 use Rattle.css_rules.specs.declared.sheet.Item as item
 use Rattle.css_rules.specs.declared.sheet.Style as style
+use Rattle.css_rules.specs.declared.sheet.Sheet.{Sheet}
 use Rattle.css_rules.specs.BareSelectors.{BareSelector, bare_list}
 use Rattle.css_rules.specs.Components.{head, inside, is_ident, is_colon, is_bang, is_semicolon, is_braces, is_custom}
-use Rattle.css_rules.specs.Cuts.{Cut, cuts, trimmed, trimmed_start}
-use Rattle.css_rules.specs.Declarations.{property_name, after_colon, may_be_value, is_important, value_of, declared, declared_after, declaration_of}
+use Rattle.css_rules.specs.Cuts.{Cut, cuts, cuts_at, trimmed, trimmed_start}
+use Rattle.css_rules.specs.Declarations.{property_name, after_colon, may_be_value, is_important, value_of, declared, declared_after, declaration_of, begins_custom}
 use Rattle.css_rules.specs.Runs.{Run, runs_within, runs_of, runs_within-Plain, runs_within-Style}
-use Rattle.css_rules.specs.Selectors.{list_of}
-use Rattle.css_rules.specs.Sheets.{declarations_of, run_of, first_place, rule_of, sheet_of}
+use Rattle.css_rules.specs.Sheets.{ends_rule, ends_item, item_of, declarations_of, run_of, rule_of, sheet_of}
 use Rattle.css_rules.specs.Standing.{Stands, AllStand}
 use Rattle.css_rules.proofs.FromSourceDeclarations.{each-append}
-use Rattle.css_rules.proofs.StandCuts.{JoinsAt, Joins, joins-cuts, stands-start, stands-trimmed, MarkStands, semicolon-fronts, marks-stand, bang-stop}
+use Rattle.css_rules.proofs.StandCuts.{JoinsAt, Joins, joins-cuts, stands-start, stands-trimmed, MarkStands, FrontStands, ends_some_item, item-fronts, marks-stand, bang-stop}
+use Rattle.css_rules.proofs.ReadAllLemmas.{read_all-holds}
+use Rattle.css_rules.proofs.RuleShapes.{item-no_block, item-shape, rule-shape, sheet-items}
 use Rattle.css_rules.proofs.StandLists.{ReadingLaws, StandsAt, StandsBefore, text-spelled, stands-front, stands-back, stands-tail, stands-inside}
 
 abbrev OfSome : {X : Type 0} → (X → Type 0) → Option X → Type 0
@@ -34,9 +35,18 @@ OfSome P (Some x) = P x
 abbrev ValueStands : Option (List Component × Bool) → Type 0
 ValueStands o = OfSome (λ (value : List Component × Bool). StandsBefore value.0) o
 
-each-option : (o : Option Declaration) → OfSome Stands o → AllByRecursion Stands (option_to_list o)
-each-option None h = tt
-each-option (Some d) h = (h, tt)
+abbrev bang_ends : List Component → Component → Bool
+bang_ends before c = is_bang c
+
+-- only a `;` or a `{}` block ends an item
+item-ends : (before : List Component) (c : Component) → ends_item before c ≡ true → ends_some_item c ≡ true
+item-ends before c e = at (is_semicolon c) (is_braces c) e
+  where
+    at : (semicolon braces : Bool) → (semicolon || (braces && not (begins_custom (trimmed_start before)))) ≡ true → (braces || semicolon) ≡ true
+    at true true h = refl
+    at true false h = refl
+    at false true h = refl
+    at false false h = h
 
 module _ (laws : ReadingLaws) where
   -- Values.
@@ -86,7 +96,7 @@ module _ (laws : ReadingLaws) where
   declared-stands name (Some v) stands = declared-at name v (may_be_value (is_custom name.text) v.0) stands
 
   tail-stands : (name : Piece) (cs : List Component) (s : List ℕ) (b : Bool) → StandsAt cs s → is_stop (classes_of s) ≡ true → OfSome Stands (declared_after name (if b then Some cs else None))
-  tail-stands name cs s true stands stop = declared-stands name (value_of (cuts is_bang cs)) (value-stands (cuts is_bang cs) cs s (joins-cuts is_bang cs) stands stop)
+  tail-stands name cs s true stands stop = declared-stands name (value_of (cuts_at is_bang cs)) (value-stands (cuts_at is_bang cs) cs s (joins-cuts is_bang bang_ends (λ b c e. e) [] cs) stands stop)
   tail-stands name cs s false stands stop = tt
 
   after-stands : (name : Piece) (cs : List Component) (s : List ℕ) → StandsAt cs s → is_stop (classes_of s) ≡ true → OfSome Stands (declared_after name (after_colon cs))
@@ -105,22 +115,23 @@ module _ (laws : ReadingLaws) where
       (stands-start laws cs stands.behind (stands-tail laws c cs stands.behind (record { reads = stands.reads })))
       stands.stop)
 
-  abbrev read_at : Cut → List Declaration
-  read_at cut = option_to_list (declaration_of (trimmed cut.front))
+  abbrev AllDeclared : List Declaration → Type 0
+  AllDeclared ds = AllByRecursion Stands ds
 
-  each-items : (cs : List Cut) → AllByRecursion (λ (cut : Cut). StandsBefore cut.front) cs → AllByRecursion Stands (flat_map read_at cs)
-  each-items [] each = tt
-  each-items (cut ∷ cs) each =
-      let front = each.0 in
-      each-append Stands (read_at cut) (flat_map read_at cs)
-      (each-option (declaration_of (trimmed cut.front))
-      (declaration-stands (trimmed cut.front) (stands-trimmed laws cut.front front.behind front.stop (record { reads = front.reads }))))
-      (each-items cs each.1)
+  item-stands : (cut : Cut) (ds : List Declaration) → FrontStands laws cut → item_of cut ≡ Some ds → AllDeclared ds
+  item-stands cut ds front e = elim (item-shape cut ds e) [
+    | inl none ↦ subst AllDeclared (sym none) tt
+    | inr one ↦
+        let before = front (item-no_block cut ds e) in
+        let stands = declaration-stands (trimmed cut.front) (stands-trimmed laws cut.front before.behind before.stop (record { reads = before.reads })) in
+        subst AllDeclared (sym one.is) (subst (λ (o : Option Declaration). OfSome Stands o) one.spelled stands, tt)
+  ]
 
-  block-stands : (block : List Component) → StandsBefore block → AllByRecursion Stands (declarations_of block)
-  block-stands block stands =
-      each-items (cuts is_semicolon block)
-      (semicolon-fronts laws (cuts is_semicolon block) block stands.behind (joins-cuts is_semicolon block) (record { reads = stands.reads }) stands.stop)
+  block-stands : (block : List Component) (ds : List Declaration) → StandsBefore block → declarations_of block ≡ Some ds → AllDeclared ds
+  block-stands block ds stands e =
+      read_all-holds AllDeclared (FrontStands laws) item_of tt (each-append Stands) item-stands (cuts ends_item block)
+      (item-fronts laws (cuts ends_item block) block stands.behind (joins-cuts ends_some_item ends_item item-ends [] block) (record { reads = stands.reads }) stands.stop)
+      ds e
 
   -- Rules.
 
@@ -144,24 +155,28 @@ module _ (laws : ReadingLaws) where
       (sym (append-nil (at_top (item.Style s)) ∙ runs_within-Style s outside ∙ ap (λ (items : List Item). flat_map (λ i. runs_within i (under_list list outside)) items) is))
       (items-stand list ds each)
 
-  rule-stands : (prelude : List Component) (mark : Option Component) → MarkStands mark → AllStand (flat_map at_top (rule_of prelude mark))
-  rule-stands prelude None stands = tt
-  rule-stands prelude (Some block) stands =
-      let ds = declarations_of (inside block) in
-      style-stands (record { selectors = list_of prelude; items = run_of ds; at = first_place (trimmed prelude) (head block).at }) ds refl
-      (block-stands (inside block) (stands-inside laws block stands.0 stands.1))
+  abbrev TopStands : List Item → Type 0
+  TopStands items = AllStand (flat_map at_top items)
 
-  abbrev rule_at : Cut → List Item
-  rule_at cut = rule_of cut.front cut.mark
+  both-stand : (xs ys : List Item) → TopStands xs → TopStands ys → TopStands (xs ++ ys)
+  both-stand xs ys h k = subst (λ (runs : List Run). AllStand runs) (sym (flat_map-append at_top xs ys)) (each-append RunStands (flat_map at_top xs) (flat_map at_top ys) h k)
 
-  rules-stand : (cs : List Cut) → AllByRecursion (λ (cut : Cut). MarkStands cut.mark) cs → AllStand (flat_map at_top (flat_map rule_at cs))
-  rules-stand [] each = tt
-  rules-stand (cut ∷ cs) each =
-      subst (λ (runs : List Run). AllStand runs)
-      (sym (flat_map-append at_top (rule_at cut) (flat_map rule_at cs)))
-      (each-append RunStands (flat_map at_top (rule_at cut)) (flat_map at_top (flat_map rule_at cs)) (rule-stands cut.front cut.mark each.0) (rules-stand cs each.1))
+  abbrev CutStands : Cut → Type 0
+  CutStands cut = MarkStands cut.mark
 
-  pub sheet-stands : (text : List ℕ) (cs : List Component) → Reads text (words_all cs) → AllStand (runs_of (sheet_of cs))
-  sheet-stands text cs reads =
+  rule-stands : (cut : Cut) (items : List Item) → CutStands cut → rule_of cut ≡ Some items → TopStands items
+  rule-stands cut items stands e = elim (rule-shape cut items e) [
+    | inl none ↦ subst TopStands (sym none) tt
+    | inr s ↦
+        let before = subst (λ (o : Option Component). MarkStands o) s.mark stands in
+        subst TopStands (sym s.is)
+        (style-stands (record { selectors = s.list; items = run_of s.ds; at = s.at }) s.ds refl (block-stands (inside s.block) s.ds (stands-inside laws s.block before.0 before.1) s.inner))
+  ]
+
+  pub sheet-stands : (text : List ℕ) (cs : List Component) (sheet : Sheet) → Reads text (words_all cs) → sheet_of cs ≡ Some sheet → AllStand (runs_of sheet)
+  sheet-stands text cs sheet reads e =
       let whole : StandsAt cs [] = record { reads = subst (λ (t : List ℕ). ReadsTo t (words_all cs) []) (text-spelled text (words_all cs) [] reads) reads } in
-      rules-stand (cuts is_braces cs) (marks-stand laws is_braces (cuts is_braces cs) cs [] (joins-cuts is_braces cs) whole)
+      let anything : Component → Bool = λ c. true in
+      read_all-holds TopStands CutStands rule_of tt both-stand rule-stands (cuts ends_rule cs)
+      (marks-stand laws anything (cuts ends_rule cs) cs [] (joins-cuts anything ends_rule (λ b c e. refl) [] cs) whole)
+      sheet.items (sheet-items cs sheet e)

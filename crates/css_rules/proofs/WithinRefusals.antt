@@ -1,5 +1,5 @@
 -- What a sheet is refused for stands within its text.
-use Rattle.std.proofs.Common.{◌≡◌, ℕ, ◌≤◌, List, [], ◌∷◌, Bool, true, false, Option, Some, None, MatchOption, flat_map, nat_lt, arith, subst}
+use Rattle.std.proofs.Common.{◌≡◌, ℕ, ◌≤◌, List, [], ◌∷◌, Bool, true, false, ◌&&◌, ◌||◌, not, Option, Some, None, MatchOption, flat_map, arith, ap, subst}
 use Rattle.std.specs.Prelude.{if◌then◌else◌}
 use Rattle.std.specs.List.{list_all, find, AllByRecursion}
 use Rattle.std.proofs.lemmas.Bool.{leb-true}
@@ -7,16 +7,15 @@ use Rattle.css_tokens.specs.declared.component.Component.{Component}
 use Rattle.css_tokens.specs.Piece.{Piece}
 use Rattle.css_tokens.specs.Trees.{pieces_all}
 use Rattle.css_rules.specs.declared.refusal.Refusal.{Refusal}
-use Rattle.css_rules.specs.declared.refusal.Refusal.TheVariants.{Syntax, Unbuilt}
 use Rattle.css_rules.specs.declared.refusal.Sought.{Sought}
-use Rattle.css_rules.specs.declared.refusal.Sought.TheVariants.{ColonOrBracket, Ampersand, RevertLayer, RevertLayerOrUrl}
+use Rattle.css_rules.specs.declared.refusal.Sought.TheVariants.{ColonOrBracket, Ampersand}
 use Rattle.css_rules.specs.declared.sheet.Declaration.{Declaration}
 use Rattle.css_rules.specs.Components.{head, inside, is_ident, is_colon, is_bang, is_semicolon, is_braces, is_custom}
-use Rattle.css_rules.specs.Cuts.{Cut, cuts, trimmed, trimmed_start}
-use Rattle.css_rules.specs.Declarations.{property_name, after_colon, may_be_value, is_important, value_of, declared, declared_after, declaration_of}
-use Rattle.css_rules.specs.Refusals.{place_of, sooner, sooner_of, first_refusal, is_sought, unbuilt_at, sought_in, is_unbuilt_property}
+use Rattle.css_rules.specs.Cuts.{Cut, cuts, cuts_at, trimmed, trimmed_start}
+use Rattle.css_rules.specs.Declarations.{property_name, after_colon, may_be_value, is_important, value_of, declared, declared_after, declaration_of, begins_custom}
+use Rattle.css_rules.specs.Refusals.{leads, sooner, sooner_of, unbuilt, first_refusal, is_sought, unbuilt_at, sought_for, sought_in, is_unbuilt_property}
 use Rattle.css_rules.specs.Selectors.{list_faults}
-use Rattle.css_rules.specs.Sheets.{first_place, declaration_refusals, begins_rule, item_refusals, block_refusals, first_fault, prelude_refusals_by, prelude_refusals, leftover_refusals, begins_at_rule, rule_refusals_by, rule_refusals, sheet_refusals}
+use Rattle.css_rules.specs.Sheets.{begins_at_rule, ends_rule, ends_item, first_place, mark_place, is_rule, declaration_refusals, plain_refusals, item_refusals, block_refusals, first_fault, prelude_refusals_by, prelude_refusals, leftover_refusals, style_refusals, rule_refusals, sheet_refusals}
 use Rattle.css_rules.proofs.FromSourceDeclarations.{each-append}
 use Rattle.css_rules.proofs.FromSourceParts.{all-start, all-trimmed, IsPart, parts-cuts}
 use Rattle.css_rules.proofs.SelectorSpelling.{and-left, and-right}
@@ -24,7 +23,7 @@ use Rattle.css_rules.proofs.Within.{is_early, is_within, early-each, within-all,
 
 module _ (end : ℕ) where
   abbrev IsWithin : Refusal → Type 0
-  IsWithin r = place_of r ≤ end
+  IsWithin r = r.at ≤ end
 
   abbrev AreWithin : List Refusal → Type 0
   AreWithin rs = AllByRecursion IsWithin rs
@@ -87,7 +86,7 @@ module _ (end : ℕ) where
 
   after-within : (name : Piece) (o : Option (List Component)) → TailWithin o → DeclaresWithin (declared_after name o)
   after-within name None h = tt
-  after-within name (Some tail) h = declared-within name (value_of (cuts is_bang tail)) (value-within (cuts is_bang tail) (parts-cuts (is_within end) is_bang tail h))
+  after-within name (Some tail) h = declared-within name (value_of (cuts_at is_bang tail)) (value-within (cuts_at is_bang tail) (parts-cuts (is_within end) is_bang (λ b c. is_bang c) (λ b c e. e) [] tail h))
 
   named-within : (b : Bool) (o : Option Declaration) → DeclaresWithin o → DeclaresWithin (if b then o else None)
   named-within true o h = h
@@ -101,35 +100,45 @@ module _ (end : ℕ) where
 
   -- Items of a block.
 
-  or-unbuilt : (b : Bool) (at : ℕ) (rest : List Refusal) → at ≤ end → AreWithin rest → AreWithin (if b then Unbuilt at ∷ [] else rest)
+  or-unbuilt : (b : Bool) (at : ℕ) (rest : List Refusal) → at ≤ end → AreWithin rest → AreWithin (if b then unbuilt at ∷ [] else rest)
   or-unbuilt true at rest h k = (h, tt)
   or-unbuilt false at rest h k = k
 
   refused-within : (at : ℕ) (o : Option Declaration) → at ≤ end → DeclaresWithin o → AreWithin (declaration_refusals at o)
   refused-within at None h k = (h, tt)
   refused-within at (Some d) h k =
-      let sought : Sought = if is_custom d.name then RevertLayer else RevertLayerOrUrl in
-      each-append IsWithin (if is_unbuilt_property d.name then Unbuilt at ∷ [] else []) (sought_in sought d.value)
+      each-append IsWithin (if is_unbuilt_property d.name then unbuilt at ∷ [] else []) (sought_in (sought_for d.name) d.value)
       (or-unbuilt (is_unbuilt_property d.name) at [] h tt)
-      (sought-within sought d.value k)
+      (sought-within (sought_for d.name) d.value k)
 
-  item-within : (cs : List Component) → all_within cs ≡ true → AreWithin (item_refusals cs)
-  item-within [] h = tt
-  item-within (c ∷ cs) h =
-      let here = head-within end c (and-left (is_within end c) (all_within cs) h) in
-      or-unbuilt (begins_rule (c ∷ cs)) (head c).at (declaration_refusals (head c).at (declaration_of (c ∷ cs))) here
-      (refused-within (head c).at (declaration_of (c ∷ cs)) here (declaration-within (c ∷ cs) h))
+  plain-within : (cs : List Component) → all_within cs ≡ true → AreWithin (plain_refusals cs)
+  plain-within [] h = tt
+  plain-within (c ∷ cs) h =
+      refused-within (head c).at (declaration_of (c ∷ cs)) (head-within end c (and-left (is_within end c) (all_within cs) h)) (declaration-within (c ∷ cs) h)
 
-  abbrev item_at : Cut → List Refusal
-  item_at cut = item_refusals (trimmed cut.front)
+  mark-within : (o : Option Component) → MatchOption o (Unit {0}) (λ c. is_within end c ≡ true) → mark_place o ≤ end
+  mark-within None h = omega arith
+  mark-within (Some c) h = head-within end c h
 
-  items-within : (cs : List Cut) → AllByRecursion (IsPart (is_within end) is_semicolon) cs → AreWithin (flat_map item_at cs)
+  start-within : (cs : List Component) (otherwise : ℕ) → all_within cs ≡ true → otherwise ≤ end → first_place cs otherwise ≤ end
+  start-within [] otherwise h k = k
+  start-within (c ∷ cs) otherwise h k = head-within end c (and-left (is_within end c) (all_within cs) h)
+
+  item-within : (cut : Cut) → IsPart (is_within end) is_semicolon cut → AreWithin (item_refusals cut)
+  item-within cut part =
+      let words = all-trimmed (is_within end) cut.front part.kept in
+      or-unbuilt (is_rule cut) (first_place (trimmed cut.front) (mark_place cut.mark)) (plain_refusals (trimmed cut.front))
+      (start-within (trimmed cut.front) (mark_place cut.mark) words (mark-within cut.mark part.closed))
+      (plain-within (trimmed cut.front) words)
+
+  items-within : (cs : List Cut) → AllByRecursion (IsPart (is_within end) is_semicolon) cs → AreWithin (flat_map item_refusals cs)
   items-within [] h = tt
-  items-within (cut ∷ cs) h =
-      each-append IsWithin (item_at cut) (flat_map item_at cs) (item-within (trimmed cut.front) (all-trimmed (is_within end) cut.front h.0.kept)) (items-within cs h.1)
+  items-within (cut ∷ cs) h = each-append IsWithin (item_refusals cut) (flat_map item_refusals cs) (item-within cut h.0) (items-within cs h.1)
 
   block-within : (block : List Component) → all_within block ≡ true → AreWithin (block_refusals block)
-  block-within block h = items-within (cuts is_semicolon block) (parts-cuts (is_within end) is_semicolon block h)
+  block-within block h =
+      items-within (cuts ends_item block)
+      (parts-cuts (is_within end) is_semicolon ends_item (λ before c s. ap (λ b. b || (is_braces c && not (begins_custom (trimmed_start before)))) s) [] block h)
 
   -- Preludes and rules.
 
@@ -151,24 +160,18 @@ module _ (end : ℕ) where
   leftover-within [] h = tt
   leftover-within (c ∷ cs) h = (head-within end c (and-left (is_within end c) (all_within cs) h), tt)
 
-  marked-rule : (words prelude : List Component) (mark : Option Component) → all_within words ≡ true → all_within prelude ≡ true
-      → MatchOption mark (Unit {0}) (λ c. is_within end c ≡ true) → AreWithin (rule_refusals_by words prelude mark)
-  marked-rule words prelude None w h m = leftover-within words w
-  marked-rule words prelude (Some block) w h m =
+  style-within : (prelude : List Component) (mark : Option Component) → all_within prelude ≡ true → MatchOption mark (Unit {0}) (λ c. is_within end c ≡ true) → AreWithin (style_refusals prelude mark)
+  style-within prelude None h m = leftover-within (trimmed prelude) (all-trimmed (is_within end) prelude h)
+  style-within prelude (Some block) h m =
       each-append IsWithin (prelude_refusals prelude (head block).at) (block_refusals (inside block))
       (prelude-within prelude (head block).at h (head-within end block m))
       (block-within (inside block) (inside-within end block m))
 
-  start-within : (cs : List Component) → all_within cs ≡ true → first_place cs 0 ≤ end
-  start-within [] h = omega arith
-  start-within (c ∷ cs) h = head-within end c (and-left (is_within end c) (all_within cs) h)
-
   rule-within : (cut : Cut) → IsPart (is_within end) is_braces cut → AreWithin (rule_refusals cut)
   rule-within cut part =
-      let words = all-trimmed (is_within end) cut.front part.kept in
-      or-unbuilt (begins_at_rule (trimmed cut.front)) (first_place (trimmed cut.front) 0) (rule_refusals_by (trimmed cut.front) cut.front cut.mark)
-      (start-within (trimmed cut.front) words)
-      (marked-rule (trimmed cut.front) cut.front cut.mark words part.kept part.closed)
+      or-unbuilt (begins_at_rule (trimmed cut.front)) (first_place (trimmed cut.front) 0) (style_refusals cut.front cut.mark)
+      (start-within (trimmed cut.front) 0 (all-trimmed (is_within end) cut.front part.kept) (omega arith))
+      (style-within cut.front cut.mark part.kept part.closed)
 
   rules-within : (cs : List Cut) → AllByRecursion (IsPart (is_within end) is_braces) cs → AreWithin (flat_map rule_refusals cs)
   rules-within [] h = tt
@@ -181,10 +184,7 @@ module _ (end : ℕ) where
   either-within false q r h k = k
 
   sooner-within : (q r : Refusal) → IsWithin q → IsWithin r → IsWithin (sooner q r)
-  sooner-within (Syntax a) (Syntax b) h k = either-within (nat_lt b a) (Syntax b) (Syntax a) k h
-  sooner-within (Syntax a) (Unbuilt b) h k = either-within (nat_lt a b) (Syntax a) (Unbuilt b) h k
-  sooner-within (Unbuilt a) (Syntax b) h k = either-within (nat_lt b a) (Syntax b) (Unbuilt a) k h
-  sooner-within (Unbuilt a) (Unbuilt b) h k = either-within (nat_lt b a) (Unbuilt b) (Unbuilt a) k h
+  sooner-within q r h k = either-within (leads q r) q r h k
 
   abbrev NamesWithin : Option Refusal → Type 0
   NamesWithin o = MatchOption o (Unit {0}) IsWithin
@@ -197,8 +197,10 @@ module _ (end : ℕ) where
   first-within [] h = tt
   first-within (r ∷ rs) h = sooner_of-within r (first_refusal rs) h.0 (first-within rs h.1)
 
-pub refusals-within : (cs : List Component) (end : ℕ) → AllByRecursion (λ (p : Piece). p.at ≤ end) (pieces_all cs) → AllByRecursion (λ (r : Refusal). place_of r ≤ end) (sheet_refusals cs)
-refusals-within cs end h = rules-within end (cuts is_braces cs) (parts-cuts (is_within end) is_braces cs (within-all end cs (early-each end (pieces_all cs) h)))
+pub refusals-within : (cs : List Component) (end : ℕ) → AllByRecursion (λ (p : Piece). p.at ≤ end) (pieces_all cs) → AllByRecursion (λ (r : Refusal). r.at ≤ end) (sheet_refusals cs)
+refusals-within cs end h =
+    rules-within end (cuts ends_rule cs)
+    (parts-cuts (is_within end) is_braces ends_rule (λ before c s. ap (λ b. b || (is_semicolon c && begins_at_rule (trimmed_start before))) s) [] cs (within-all end cs (early-each end (pieces_all cs) h)))
 
-pub first_refusal-within : (cs : List Component) (end : ℕ) (r : Refusal) → AllByRecursion (λ (p : Piece). p.at ≤ end) (pieces_all cs) → first_refusal (sheet_refusals cs) ≡ Some r → place_of r ≤ end
-first_refusal-within cs end r h e = subst (λ o. MatchOption o (Unit {0}) (λ q. place_of q ≤ end)) e (first-within end (sheet_refusals cs) (refusals-within cs end h))
+pub first_refusal-within : (cs : List Component) (end : ℕ) (r : Refusal) → AllByRecursion (λ (p : Piece). p.at ≤ end) (pieces_all cs) → first_refusal (sheet_refusals cs) ≡ Some r → r.at ≤ end
+first_refusal-within cs end r h e = subst (λ o. MatchOption o (Unit {0}) (λ q. q.at ≤ end)) e (first-within end (sheet_refusals cs) (refusals-within cs end h))

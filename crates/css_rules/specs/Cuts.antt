@@ -1,5 +1,5 @@
 -- Lists cut at marks, as rules and declarations are (CSS Syntax 3, section 5.4), and without white space and comments at their ends.
-use Rattle.std.specs.Prelude.{List, [], ◌∷◌, Bool, Option, Some, None, if◌then◌else◌}
+use Rattle.std.specs.Prelude.{List, [], ◌∷◌, ◌++◌, Bool, Option, Some, None, if◌then◌else◌}
 use Rattle.std.specs.List.{list_all}
 use Rattle.css_tokens.specs.declared.component.Component.{Component}
 use Rattle.css_rules.specs.Components.{is_gap}
@@ -14,10 +14,19 @@ abbrev pub with_front : Component → List Cut → List Cut
 with_front c [] = []
 with_front c (cut ∷ cuts) = record { front = c ∷ cut.front; mark = cut.mark } ∷ cuts
 
--- The list cut at each component that passes the test. The last cut ends where the list does.
-abbrev pub cuts : (Component → Bool) → List Component → List Cut
-cuts test [] = record { front = []; mark = None } ∷ []
-cuts test (c ∷ cs) = if test c then record { front = []; mark = Some c } ∷ cuts test cs else with_front c (cuts test cs)
+-- The cuts of what stands behind these components. It is cut at each component that ends what stands before it since the last cut. The last cut ends where the list does.
+abbrev pub cuts_behind : (List Component → Component → Bool) → List Component → List Component → List Cut
+cuts_behind ends before [] = record { front = []; mark = None } ∷ []
+cuts_behind ends before (c ∷ cs) =
+    if ends before c then record { front = []; mark = Some c } ∷ cuts_behind ends [] cs else with_front c (cuts_behind ends (before ++ c ∷ []) cs)
+
+-- the list cut at each component that ends what stands before it
+abbrev pub cuts : (List Component → Component → Bool) → List Component → List Cut
+cuts ends cs = cuts_behind ends [] cs
+
+-- the list cut at each component that passes the test
+abbrev pub cuts_at : (Component → Bool) → List Component → List Cut
+cuts_at test cs = cuts (λ before c. test c) cs
 
 -- without white space and comments at the start
 abbrev pub trimmed_start : List Component → List Component

@@ -6,7 +6,7 @@ use Rattle.css_tokens.specs.declared.component.Component.{Component}
 use Rattle.css_tokens.specs.Piece.{Piece}
 use Rattle.css_rules.specs.declared.sheet.Declaration.{Declaration}
 use Rattle.css_rules.specs.Components.{head, is_ident, is_colon, is_bang, is_braces, is_custom, is_keyword}
-use Rattle.css_rules.specs.Cuts.{Cut, cuts, trimmed, trimmed_start}
+use Rattle.css_rules.specs.Cuts.{Cut, cuts_at, trimmed, trimmed_start}
 
 -- a custom property keeps its name, any other is in lower case
 abbrev pub property_name : List ℕ → List ℕ
@@ -46,7 +46,7 @@ declared name (Some value) =
 -- the declaration of this name whose value stands in what is behind the colon, where there is a colon
 abbrev pub declared_after : Piece → Option (List Component) → Option Declaration
 declared_after name None = None
-declared_after name (Some tail) = declared name (value_of (cuts is_bang tail))
+declared_after name (Some tail) = declared name (value_of (cuts_at is_bang tail))
 
 -- The declaration that these components spell: an Ident, a colon, a value, and perhaps `!important`. The first component is its name.
 abbrev pub declaration_of : List Component → Option Declaration

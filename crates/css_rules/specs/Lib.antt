@@ -2,6 +2,7 @@ pub mod Components
 pub mod Cuts
 pub mod Declarations
 pub mod Refusals
+pub mod ReadAll
 pub mod Selectors
 pub mod Sheets
 pub mod SelectorFaults

@@ -4,7 +4,6 @@ use Rattle.std.specs.List.{list_any, AllByRecursion}
 use Rattle.css_tokens.specs.declared.component.Component.{Component}
 use Rattle.css_tokens.specs.Trees.{all_formed}
 use Rattle.css_tokens.specs.PlainNames.{is_plain_name}
-use Rattle.css_rules.specs.declared.refusal.Sought.TheVariants.{RevertLayer, RevertLayerOrUrl}
 use Rattle.css_rules.specs.declared.sheet.Declaration.{Declaration}
 use Rattle.css_rules.specs.declared.selector.Simple.{Simple}
 use Rattle.css_rules.specs.declared.selector.Simple.TheVariants.{Class, Id, Parent}
@@ -12,7 +11,7 @@ use Rattle.css_rules.specs.BareSelectors.{BareCompound, BareSelector}
 use Rattle.css_rules.specs.ReadableSelectors.{is_readable_list}
 use Rattle.css_rules.specs.Components.{is_bang, is_semicolon, is_custom, is_gap}
 use Rattle.css_rules.specs.Declarations.{property_name, may_be_value}
-use Rattle.css_rules.specs.Refusals.{is_unbuilt_property, sought_in}
+use Rattle.css_rules.specs.Sheets.{is_unbuilt}
 use Rattle.css_rules.specs.Runs.{Run}
 use Rattle.css_rules.specs.Contexts.{outside, under_list}
 
@@ -35,17 +34,16 @@ abbrev pub begins_solid : List Component → Bool
 begins_solid [] = true
 begins_solid (c ∷ cs) = not (is_gap c)
 
--- a declaration whose text reads as it again: a plain name that is not refused, and a value that fits it, without white space or a comment in front and without a `!`, a `;` or a refused token
+-- a declaration whose text reads as it again: no later stage rewrites it, its name is plain, and its value fits it, without white space or a comment in front and without a `!` or a `;`
 pub record IsPrintableDeclaration (d : Declaration) : Type 0 where
   pub name : is_plain_name d.name ≡ true
   pub property : property_name d.name ≡ d.name
-  pub built : is_unbuilt_property d.name ≡ false
+  pub built : is_unbuilt d ≡ false
   pub fits : may_be_value (is_custom d.name) d.value ≡ true
   pub begun : begins_solid d.value ≡ true
   pub bangless : list_any is_bang d.value ≡ false
   pub undivided : list_any is_semicolon d.value ≡ false
   pub formed : all_formed d.value ≡ true
-  pub unsought : sought_in (if is_custom d.name then RevertLayer else RevertLayerOrUrl) d.value ≡ []
 
 -- a run of a rule that is not nested, whose selectors have a spelling, with a declaration at least, and each declaration so
 pub record IsPrintable (run : Run) : Type 0 where

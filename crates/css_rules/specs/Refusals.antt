@@ -1,28 +1,38 @@
 -- What a sheet is refused for, and which refusal is named.
-use Rattle.std.specs.Prelude.{ℕ, List, [], ◌∷◌, Bool, true, false, ◌||◌, codes, Option, Some, None, if◌then◌else◌, nat_eq, nat_lt, find}
-use Rattle.std.specs.List.{starts_with}
+use Rattle.std.specs.Prelude.{ℕ, List, [], ◌∷◌, Bool, true, false, ◌||◌, ◌&&◌, codes, Option, Some, None, if◌then◌else◌, nat_eq, nat_lt, nat_le, find}
+use Rattle.std.specs.List.{list_any, starts_with}
 use Rattle.css_tokens.specs.declared.kind.Kind.{Kind}
 use Rattle.css_tokens.specs.declared.kind.Kind.TheVariants.{Ident, Function, Url, Colon, Open, Delim}
 use Rattle.css_tokens.specs.declared.component.Component.{Component}
 use Rattle.css_tokens.specs.Piece.{Piece}
 use Rattle.css_tokens.specs.Trees.{pieces_all, is_text}
+use Rattle.css_rules.specs.declared.refusal.Cause.{Cause}
+use Rattle.css_rules.specs.declared.refusal.Cause.TheVariants.{Syntax, Unbuilt}
 use Rattle.css_rules.specs.declared.refusal.Refusal.{Refusal}
-use Rattle.css_rules.specs.declared.refusal.Refusal.TheVariants.{Syntax, Unbuilt}
 use Rattle.css_rules.specs.declared.refusal.Sought.{Sought}
 use Rattle.css_rules.specs.declared.refusal.Sought.TheVariants.{ColonOrBracket, Ampersand, RevertLayer, RevertLayerOrUrl}
-use Rattle.css_rules.specs.Components.{is_keyword}
+use Rattle.css_rules.specs.Components.{is_custom, is_keyword}
 
--- the place that a refusal names
-abbrev pub place_of : Refusal → ℕ
-place_of (Syntax at) = at
-place_of (Unbuilt at) = at
+-- it cannot be read, at this place
+abbrev pub syntax : ℕ → Refusal
+syntax at = record { at = at; cause = Syntax }
 
--- Of two refusals the one at the lesser place is named, and of two at one place the construct that is not built yet.
+-- it is not built yet, at this place
+abbrev pub unbuilt : ℕ → Refusal
+unbuilt at = record { at = at; cause = Unbuilt }
+
+-- The order of causes. Of two at one place the lower is named: what is not built yet, and then what cannot be read.
+abbrev pub rank : Cause → ℕ
+rank Unbuilt = 0
+rank Syntax = 1
+
+-- The order of refusals: by place, and at one place by cause.
+abbrev pub leads : Refusal → Refusal → Bool
+leads r s = nat_lt r.at s.at || (nat_eq r.at s.at && nat_le (rank r.cause) (rank s.cause))
+
+-- of two refusals the one that is named
 abbrev pub sooner : Refusal → Refusal → Refusal
-sooner (Syntax a) (Syntax b) = if nat_lt b a then Syntax b else Syntax a
-sooner (Syntax a) (Unbuilt b) = if nat_lt a b then Syntax a else Unbuilt b
-sooner (Unbuilt a) (Syntax b) = if nat_lt b a then Syntax b else Unbuilt a
-sooner (Unbuilt a) (Unbuilt b) = if nat_lt b a then Unbuilt b else Unbuilt a
+sooner r s = if leads r s then r else s
 
 -- the refusal that is named of two, each of which may be missing
 abbrev pub sooner_of : Option Refusal → Option Refusal → Option Refusal
@@ -30,7 +40,7 @@ sooner_of None other = other
 sooner_of (Some a) None = Some a
 sooner_of (Some a) (Some b) = Some (sooner a b)
 
--- of all these refusals the one that is named, where there is any: the one at the least place
+-- of all these refusals the one that is named, where there is any: the first in their order
 abbrev pub first_refusal : List Refusal → Option Refusal
 first_refusal [] = None
 first_refusal (refusal ∷ refusals) = sooner_of (Some refusal) (first_refusal refusals)
@@ -64,10 +74,18 @@ is_sought Ampersand token = is_ampersand token.kind token.text
 is_sought RevertLayer token = is_revert_layer token.kind token.text
 is_sought RevertLayerOrUrl token = is_revert_layer token.kind token.text || is_url token.kind token.text
 
+-- is it among the tokens of these components, at any depth?
+abbrev pub has_sought : Sought → List Component → Bool
+has_sought sought cs = list_any (is_sought sought) (pieces_all cs)
+
+-- what is not built yet in the value of a property of this name
+abbrev pub sought_for : List ℕ → Sought
+sought_for name = if is_custom name then RevertLayer else RevertLayerOrUrl
+
 -- the refusal of this token as not built yet, where there is a token
 abbrev pub unbuilt_at : Option Piece → List Refusal
 unbuilt_at None = []
-unbuilt_at (Some token) = Unbuilt token.at ∷ []
+unbuilt_at (Some token) = unbuilt token.at ∷ []
 
 -- the refusal at the first such token of these components, at any depth, where there is one
 abbrev pub sought_in : Sought → List Component → List Refusal

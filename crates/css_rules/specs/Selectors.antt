@@ -14,6 +14,7 @@ use Rattle.css_rules.specs.declared.selector.Link.{Link}
 use Rattle.css_rules.specs.declared.selector.Selector.{Selector}
 use Rattle.css_rules.specs.declared.selector.sign.Sign.{Sign}
 use Rattle.css_rules.specs.declared.selector.sign.Sign.TheVariants.{Comment, White, Child, Next, Later, Name, Star, Dot, Id, Parent}
+use Rattle.css_rules.specs.ReadAll.{read_all}
 use Rattle.css_rules.specs.Signs.{sign_of, place_of, is_comma, is_gap}
 
 -- Compounds. Their signs hold no comment, white space or combinator.
@@ -164,9 +165,13 @@ fault_of end m =
     if is_some (selector_of m.components) then None
     else Some (unwrap_or (first_place m.components) (unwrap_or m.stop end))
 
--- the selectors of a list
-abbrev pub list_of : List Component → List Selector
-list_of cs = filter_map (λ m. selector_of m.components) (members_of cs)
+-- the selector of a member, where it spells one
+abbrev pub member_of : Member → Option (List Selector)
+member_of m = option_map (λ selector. selector ∷ []) (selector_of m.components)
+
+-- the selectors of a list, where each member spells one
+abbrev pub list_of : List Component → Option (List Selector)
+list_of cs = read_all member_of (members_of cs)
 
 -- the places of its members without a reading
 abbrev pub list_faults : List Component → ℕ → List ℕ

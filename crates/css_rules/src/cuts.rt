@@ -2,10 +2,13 @@
 
 ghost use Rattle.std.specs.Prelude.{◌≡◌, ◌≤◌, ◌+◌, ◌∷◌, [], length, drop, slice_get, slice_range, MatchOption};
 ghost use Rattle.std.specs.Option.{option_copied};
-ghost use Rattle.css_rules.specs.Cuts.{cuts, trimmed, trimmed_start, trimmed_end};
-ghost use Rattle.css_rules.specs.Private.Marks.{EndsCut, is_mark};
+ghost use Rattle.css_rules.specs.Components.{is_semicolon};
+ghost use Rattle.css_rules.specs.Cuts.{trimmed, trimmed_start, trimmed_end};
+ghost use Rattle.css_rules.specs.Private.Marks.{EndsAt, IsFirstMark, is_mark};
+ghost use Rattle.css_rules.specs.Sheets.{ends_item, ends_rule};
 
-use crate::parts::{head_of, is_space, is_token};
+use crate::declaration::begins_custom;
+use crate::parts::{begins_at_rule, head_of, is_braces, is_space, is_token};
 use css_tokens::{Component, Kind};
 
 /// What a list is cut at.
@@ -14,31 +17,62 @@ pub enum Mark {
     /// A `{}` block.
     Braces,
     Semicolon,
+    /// A `{}` block or a semicolon.
+    BracesOrSemicolon,
     /// A `!` that stands alone.
     Bang,
+}
+
+fn is_semicolon(component: &Component) -> bool
+    ensures { result ≡ is_semicolon component.now }
+{
+    is_token(component) && matches!(head_of(component).kind, Kind::Semicolon)
 }
 
 impl Mark {
     fn is(self, component: &Component) -> bool
         ensures { result ≡ is_mark self component.now }
     {
-        let token = head_of(component);
         match self {
-            Mark::Braces => !is_token(component) && token.text == "{",
-            Mark::Semicolon => is_token(component) && matches!(token.kind, Kind::Semicolon),
+            Mark::Braces => is_braces(component),
+            Mark::Semicolon => is_semicolon(component),
+            Mark::BracesOrSemicolon => is_braces(component) || is_semicolon(component),
             Mark::Bang => {
+                let token = head_of(component);
                 is_token(component) && (matches!(token.kind, Kind::Delim) && token.text == "!")
             }
         }
     }
 }
 
-/// Where the first cut of what stands from a place on ends: at its mark, or at the end of the list.
+/// What ends the rule that begins with these components.
+pub fn rule_mark(components: &[Component]) -> Mark
+    ensures { EndsAt ends_rule (is_mark result) components.now }
+{
+    if begins_at_rule(trimmed_start(components)) {
+        Mark::BracesOrSemicolon
+    } else {
+        Mark::Braces
+    }
+}
+
+/// What ends the item of a block that begins with these components.
+pub fn item_mark(components: &[Component]) -> Mark
+    ensures { EndsAt ends_item (is_mark result) components.now }
+{
+    if begins_custom(trimmed_start(components)) {
+        Mark::Semicolon
+    } else {
+        Mark::BracesOrSemicolon
+    }
+}
+
+/// Where the first mark stands from a place on, or where the list ends.
 pub fn end_of_cut(components: &[Component], from: usize, mark: Mark) -> usize
     requires { from ≤ length components.now }
     ensures after { from ≤ result }
     ensures within { result ≤ length components.now }
-    ensures cut { EndsCut (is_mark mark) components.now from result }
+    ensures first { IsFirstMark (is_mark mark) components.now from result }
 {
     let mut to = from;
     while to < components.len() && !mark.is(&components[to]) {

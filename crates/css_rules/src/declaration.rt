@@ -4,10 +4,8 @@ ghost use Rattle.std.specs.Prelude.{◌≡◌, ◌∷◌, [], IfOk, length};
 ghost use Rattle.std.specs.List.{list_any};
 ghost use Rattle.std.specs.Char.{is_ascii_uppercase};
 ghost use Rattle.std.specs.Option.{option_map};
-ghost use Rattle.css_rules.specs.Components.{is_ident, is_colon, is_custom};
-ghost use Rattle.css_rules.specs.Cuts.{cuts};
-ghost use Rattle.css_rules.specs.Private.Marks.{is_mark};
-ghost use Rattle.css_rules.specs.declared.cuts.Mark.TheVariants.{Bang};
+ghost use Rattle.css_rules.specs.Components.{is_ident, is_colon, is_custom, is_bang};
+ghost use Rattle.css_rules.specs.Cuts.{cuts_at};
 ghost use Rattle.css_rules.specs.Declarations.{property_name, after_colon, is_important, may_be_value, value_of, declared, declaration_of, begins_custom};
 
 use crate::cuts::{Mark, end_of_cut, trimmed, trimmed_start};
@@ -82,7 +80,7 @@ struct Marked<'s, 'a> {
 
 /// The value behind a colon, and whether it is marked important. Nothing where a `!` stands elsewhere.
 fn marked_value<'s, 'a>(tail: &'s [Component<'a>]) -> Option<Marked<'s, 'a>>
-    ensures { option_map (λ marked. (marked.value.now, marked.important)) result ≡ value_of (cuts (is_mark Bang) tail.now) }
+    ensures { option_map (λ marked. (marked.value.now, marked.important)) result ≡ value_of (cuts_at is_bang tail.now) }
 {
     let end = end_of_cut(tail, 0, Mark::Bang);
     let value = trimmed(&tail[..end]);
@@ -118,7 +116,7 @@ fn declared<'a>(
     name: &Token<'a>,
     tail: &[Component<'a>],
 ) -> Result<Option<Declaration<'a>>, OutOfMemory>
-    ensures { IfOk result (λ declaration. declaration ≡ declared name.now (value_of (cuts (is_mark Bang) tail.now))) }
+    ensures { IfOk result (λ declaration. declaration ≡ declared name.now (value_of (cuts_at is_bang tail.now))) }
 {
     let Some(marked) = marked_value(tail) else {
         return Ok(None);

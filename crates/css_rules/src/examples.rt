@@ -3,9 +3,8 @@
 ghost use Rattle.std.specs.Prelude.{◌≡◌, [], ◌∷◌, true, false, Some, None, codes};
 ghost use Rattle.css_rules.specs.Declarations.{may_be_value, property_name};
 ghost use Rattle.css_rules.specs.Components.{is_custom, is_keyword};
-ghost use Rattle.css_rules.specs.Refusals.{first_refusal, is_colon_or_bracket, is_revert_layer, is_unbuilt_property, is_url};
+ghost use Rattle.css_rules.specs.Refusals.{first_refusal, syntax, unbuilt, is_colon_or_bracket, is_revert_layer, is_unbuilt_property, is_url};
 ghost use Rattle.css_rules.specs.SelectorTexts.{combinator_text};
-ghost use Rattle.css_rules.specs.declared.refusal.Refusal.TheVariants.{Syntax, Unbuilt};
 ghost use Rattle.css_rules.specs.declared.selector.Combinator.TheVariants.{Descendant, Child, Next, Later};
 ghost use Rattle.css_tokens.specs.declared.kind.Kind.TheVariants.{Colon, Function, Ident, Open, Url};
 
@@ -15,10 +14,10 @@ pub mod sheets;
 /// Which of several refusals is named: the one at the least place, and of two at one place what is not built yet.
 pub fn refusals_are_named()
     ensures none { first_refusal [] ≡ None }
-    ensures least { first_refusal (Syntax 5 ∷ Unbuilt 3 ∷ Syntax 4 ∷ []) ≡ Some (Unbuilt 3) }
-    ensures least_of_a_kind { first_refusal (Syntax 5 ∷ Syntax 2 ∷ Syntax 4 ∷ []) ≡ Some (Syntax 2) }
-    ensures at_one_place { first_refusal (Syntax 3 ∷ Unbuilt 3 ∷ []) ≡ Some (Unbuilt 3) }
-    ensures at_one_place_the_other_way_round { first_refusal (Unbuilt 3 ∷ Syntax 3 ∷ []) ≡ Some (Unbuilt 3) }
+    ensures least { first_refusal (syntax 5 ∷ unbuilt 3 ∷ syntax 4 ∷ []) ≡ Some (unbuilt 3) }
+    ensures least_of_a_kind { first_refusal (syntax 5 ∷ syntax 2 ∷ syntax 4 ∷ []) ≡ Some (syntax 2) }
+    ensures at_one_place { first_refusal (syntax 3 ∷ unbuilt 3 ∷ []) ≡ Some (unbuilt 3) }
+    ensures at_one_place_the_other_way_round { first_refusal (unbuilt 3 ∷ syntax 3 ∷ []) ≡ Some (unbuilt 3) }
 {}
 
 /// The names of properties that are not built yet.

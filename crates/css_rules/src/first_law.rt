@@ -1,21 +1,19 @@
 ghost use Rattle.css_rules.specs.Components.{head};
-ghost use Rattle.css_rules.specs.Refusals.{first_refusal, place_of};
+ghost use Rattle.css_rules.specs.Refusals.{first_refusal, leads};
 ghost use Rattle.css_rules.specs.SelectorFaults.{first_of};
 ghost use Rattle.css_rules.specs.Selectors.{list_faults};
-ghost use Rattle.css_rules.specs.declared.refusal.Refusal.TheVariants.{Syntax, Unbuilt};
 ghost use Rattle.css_rules.specs.declared.refusal.Refusal.{Refusal};
 ghost use Rattle.css_tokens.specs.Pairing.{places_rise};
 ghost use Rattle.css_tokens.specs.Trees.{pieces_all};
 ghost use Rattle.css_tokens.specs.declared.component.Component.{Component};
 ghost use Rattle.std.specs.List.{AllByRecursion, Contains};
-ghost use Rattle.std.specs.Prelude.{◌≡◌, ◌≢◌, ◌≤◌, ℕ, List, [], ◌∷◌, ◌++◌, IsTrue, None, Some};
+ghost use Rattle.std.specs.Prelude.{◌≡◌, ◌≤◌, ℕ, List, [], ◌∷◌, ◌++◌, IsTrue, None, Some};
 
-/// The refusal that is named is one of those that stand, none stands before it, and one is named where any stands. At its
-/// own place it is a construct that is not built yet where one stands there.
+/// The refusal that is named is one of those that stand, it comes first among them by place and at one place by cause, and
+/// one is named where any stands.
 pub fn the_first_refusal_is_named()
     ensures stands { (rs : List Refusal) (r : Refusal) → first_refusal rs ≡ Some r → Contains rs r }
-    ensures least { (rs : List Refusal) (r : Refusal) → first_refusal rs ≡ Some r → AllByRecursion (λ s. place_of r ≤ place_of s) rs }
-    ensures tie { (rs : List Refusal) (at : ℕ) → first_refusal rs ≡ Some (Syntax at) → AllByRecursion (λ s. s ≢ Unbuilt at) rs }
+    ensures first { (rs : List Refusal) (r : Refusal) → first_refusal rs ≡ Some r → AllByRecursion (λ s. IsTrue (leads r s)) rs }
     ensures some { (rs : List Refusal) → first_refusal rs ≡ None → rs ≡ [] }
 {}
 

@@ -3,7 +3,8 @@
 ghost use Rattle.std.specs.Prelude.{◌≡◌};
 ghost use Rattle.std.specs.List.{list_any};
 ghost use Rattle.std.specs.Str.{str_to_ascii_lowercase};
-ghost use Rattle.css_rules.specs.Components.{head, is_gap, is_single, is_gap_kind, is_keyword, is_braces};
+ghost use Rattle.css_rules.specs.Components.{head, is_at_keyword, is_gap, is_single, is_gap_kind, is_keyword, is_braces};
+ghost use Rattle.css_rules.specs.Sheets.{begins_at_rule};
 
 use css_tokens::{Component, Kind, Token};
 
@@ -54,4 +55,21 @@ pub fn is_braces(component: &Component) -> bool
     ensures { result ≡ is_braces component.now }
 {
     !is_token(component) && head_of(component).text == "{"
+}
+
+/// Whether it is an at-keyword.
+fn is_at_keyword(component: &Component) -> bool
+    ensures { result ≡ is_at_keyword component.now }
+{
+    is_token(component) && matches!(head_of(component).kind, Kind::At)
+}
+
+/// Whether the components begin with an at-keyword.
+pub fn begins_at_rule(components: &[Component]) -> bool
+    ensures { result ≡ begins_at_rule components.now }
+{
+    match components {
+        [first, ..] => is_at_keyword(first),
+        [] => false,
+    }
 }

@@ -6,11 +6,12 @@ ghost use Rattle.css_tokens.specs.declared.component.Component.{Component};
 ghost use Rattle.css_rules.specs.RunStatements.{run_says};
 ghost use Rattle.css_rules.specs.Statements.{statements_of};
 ghost use Rattle.css_rules.specs.declared.sheet.Sheet.{Sheet};
+ghost use Rattle.std.specs.Option.{option_map};
 ghost use Rattle.std.specs.Prelude.{◌≡◌, List, IsTrue, flat_map};
 
-/// What a sheet says does not depend on where its tokens stand: sheets of the same words say the same.
+/// What a sheet says does not depend on where its tokens stand: the same words have sheets that say the same, or none has.
 pub fn places_do_not_matter()
-    ensures { (a b : List Component) → words_all a ≡ words_all b → IsTrue (all_formed a) → IsTrue (all_formed b) → bare_runs (sheet_of a) ≡ bare_runs (sheet_of b) }
+    ensures { (a b : List Component) → words_all a ≡ words_all b → IsTrue (all_formed a) → IsTrue (all_formed b) → option_map bare_runs (sheet_of a) ≡ option_map bare_runs (sheet_of b) }
 {
     css_tokens::one_pairing();
 }

@@ -2,19 +2,16 @@
 
 ghost use Rattle.std.specs.Prelude.{◌≡◌, ◌++◌, ◌∷◌, [], IfOk, IfErr, OnOk, OnErr, IsNone, Option, Some, None};
 ghost use Rattle.std.specs.Option.{option_copied, option_to_list};
-ghost use Rattle.css_rules.specs.Components.{inside, head, is_at_keyword};
-ghost use Rattle.css_rules.specs.Cuts.{trimmed};
-ghost use Rattle.css_rules.specs.Declarations.{declaration_of};
-ghost use Rattle.css_rules.specs.Refusals.{first_refusal, holds, is_unbuilt_property};
-ghost use Rattle.css_rules.specs.Selectors.{list_of, list_faults};
-ghost use Rattle.css_rules.specs.Sheets.{declarations_of, run_of, first_place, rule_of, rules_of, sheet_of, declaration_refusals, begins_rule, item_refusals, block_refusals, prelude_refusals, leftover_refusals, begins_at_rule, rule_refusals, sheet_refusals, IsNamed, IsLeast};
+ghost use Rattle.css_rules.specs.Components.{inside, head};
+ghost use Rattle.css_rules.specs.Refusals.{first_refusal, holds, is_unbuilt_property, sought_for};
+ghost use Rattle.css_rules.specs.Sheets.{block_refusals, declaration_refusals, declarations_of, first_place, is_rule, item_of, item_refusals, mark_place, plain_item, plain_refusals, prelude_of, prelude_refusals, rule_of, rule_refusals, rules_of, run_of, sheet_of, sheet_refusals, style_of, style_refusals, IsNamed, IsLeast};
 ghost use Rattle.css_rules.specs.Private.Faults.{fault_of};
 
-use crate::cuts::{Mark, end_of_cut, mark_at, trimmed};
-use crate::declaration::{begins_custom, is_custom, read_declaration};
+use crate::cuts::{end_of_cut, item_mark, mark_at, rule_mark, trimmed};
+use crate::declaration::{is_custom, read_declaration};
 use crate::first_law::the_first_refusal_is_named;
-use crate::parts::{head_of, is_block_in, is_token};
-use crate::refusal::{Refusal, Sought, sooner_of, sought_in};
+use crate::parts::{begins_at_rule, head_of, is_braces};
+use crate::refusal::{Cause, Refusal, Sought, sooner_of, sought_in};
 use crate::selector::{Selector, SelectorFault, read_list};
 use crate::sheet::{Declaration, Item, Sheet, Style};
 use css_tokens::{Component, Kind, List, OutOfMemory};
@@ -77,56 +74,93 @@ fn is_unbuilt_property(name: &str) -> bool
                             || (name == "clear" || (name == "resize" || name == "composes")))))))
 }
 
+/// What is not built yet in the value of a property of this name.
+fn sought_for(name: &str) -> Sought
+    ensures { result ≡ sought_for name.now }
+{
+    if is_custom(name) {
+        Sought::RevertLayer
+    } else {
+        Sought::RevertLayerOrUrl
+    }
+}
+
 /// What a declaration is refused for, which stands at a place.
 fn declaration_refusal(at: u32, declaration: &Option<Declaration>) -> Option<Refusal>
     ensures { result ≡ first_refusal (declaration_refusals at declaration.now) }
 {
     let Some(declaration) = declaration else {
-        return Some(Refusal::Syntax(at));
+        return Some(Refusal::syntax(at));
     };
     let name = declaration.name.as_str();
     let property = if is_unbuilt_property(name) {
-        Some(Refusal::Unbuilt(at))
+        Some(Refusal::unbuilt(at))
     } else {
         None
     };
-    let sought = if is_custom(name) {
-        Sought::RevertLayer
-    } else {
-        Sought::RevertLayerOrUrl
-    };
-    sooner_of(property, sought_in(declaration.value.as_slice(), sought))
+    sooner_of(
+        property,
+        sought_in(declaration.value.as_slice(), sought_for(name)),
+    )
 }
 
-fn is_at_keyword(component: &Component) -> bool
-    ensures { result ≡ is_at_keyword component.now }
+/// The declaration that an item of a block spells which is no rule.
+fn read_plain<'a>(
+    alloc: Global,
+    item: &[Component<'a>],
+) -> Result<Judged<Option<Declaration<'a>>>, OutOfMemory>
+    ensures refusal { IfOk result (λ read. read.refusal ≡ first_refusal (plain_refusals item.now)) }
+    ensures value { IfOk result (λ read. read.refusal ≡ None → plain_item item.now ≡ Some (option_to_list read.value)) }
 {
-    is_token(component) && matches!(head_of(component).kind, Kind::At)
+    let [first, ..] = item else {
+        return Ok(Judged {
+            value: None,
+            refusal: None,
+        });
+    };
+    let value = read_declaration(alloc, item)?;
+    let refusal = declaration_refusal(head_of(first).at, &value);
+    Ok(Judged { value, refusal })
+}
+
+/// The place of a mark.
+fn mark_place(mark: Option<&Component>) -> u32
+    ensures { result ≡ mark_place (option_copied mark.entry) }
+{
+    match mark {
+        Some(mark) => head_of(mark).at,
+        None => 0,
+    }
 }
 
 /// Whether an item of a style rule's block is an at-rule or a nested rule.
-fn begins_rule(components: &[Component]) -> bool
-    ensures { result ≡ begins_rule components.now }
+fn is_rule(front: &[Component], mark: Option<&Component>) -> bool
+    ensures { result ≡ is_rule (record { front = front.now; mark = option_copied mark.entry }) }
 {
-    let [first, ..] = components else {
-        return false;
-    };
-    is_at_keyword(first) || (!begins_custom(components) && is_block_in(components))
+    begins_at_rule(trimmed(front))
+        || match mark {
+            Some(mark) => is_braces(mark),
+            None => false,
+        }
 }
 
-/// What an item of a style rule's block is refused for, whose declaration is given.
-fn item_refusal(components: &[Component], declaration: &Option<Declaration>) -> Option<Refusal>
-    requires { declaration.now ≡ declaration_of components.now }
-    ensures { result ≡ first_refusal (item_refusals components.now) }
+/// What stands in a block before a mark, or before its end.
+fn read_item<'a>(
+    alloc: Global,
+    front: &[Component<'a>],
+    mark: Option<&Component<'a>>,
+) -> Result<Judged<Option<Declaration<'a>>>, OutOfMemory>
+    ensures refusal { IfOk result (λ read. read.refusal ≡ first_refusal (item_refusals (record { front = front.now; mark = option_copied mark.entry }))) }
+    ensures value { IfOk result (λ read. read.refusal ≡ None → item_of (record { front = front.now; mark = option_copied mark.entry }) ≡ Some (option_to_list read.value)) }
 {
-    let [first, ..] = components else {
-        return None;
-    };
-    let at = head_of(first).at;
-    if begins_rule(components) {
-        Some(Refusal::Unbuilt(at))
+    let item = trimmed(front);
+    if is_rule(front, mark) {
+        Ok(Judged {
+            value: None,
+            refusal: Some(Refusal::unbuilt(first_place(item, mark_place(mark)))),
+        })
     } else {
-        declaration_refusal(at, declaration)
+        read_plain(alloc, item)
     }
 }
 
@@ -140,28 +174,28 @@ fn push_some<T: Drop>(list: &mut List<T>, item: Option<T>) -> Result<(), OutOfMe
     }
 }
 
-/// The declarations of a style rule's block, as a run where there are any.
+/// The declarations of a style rule's block.
 fn read_block<'a>(
     alloc: Global,
     block: &[Component<'a>],
-) -> Result<Judged<List<Item<'a>>>, OutOfMemory>
+) -> Result<Judged<List<Declaration<'a>>>, OutOfMemory>
     ensures refusal { IfOk result (λ read. read.refusal ≡ first_refusal (block_refusals block.now)) }
-    ensures value { IfOk result (λ read. read.value ≡ run_of (declarations_of block.now)) }
+    ensures value { IfOk result (λ read. read.refusal ≡ None → declarations_of block.now ≡ Some read.value) }
 {
     let mut declarations = List::new(alloc);
     let mut refusal = None;
     let mut from = 0;
     while from <= block.len() {
-        let end = end_of_cut(block, from, Mark::Semicolon);
-        let item = trimmed(&block[from..end]);
-        let declaration = read_declaration(alloc, item)?;
-        refusal = sooner_of(refusal, item_refusal(item, &declaration));
-        push_some(&mut declarations, declaration)?;
+        let end = end_of_cut(block, from, item_mark(&block[from..]));
+        let item = read_item(alloc, &block[from..end], mark_at(block, end))?;
+        refusal = sooner_of(refusal, item.refusal);
+        let Judged { value, refusal: _ } = item;
+        push_some(&mut declarations, value)?;
         from = end + 1;
     }
     declarations.shrink_to_fit();
     Ok(Judged {
-        value: run_of(alloc, declarations)?,
+        value: declarations,
         refusal,
     })
 }
@@ -188,7 +222,7 @@ fn read_prelude<'a>(
     end: u32,
 ) -> Result<Judged<List<Selector<'a>>>, OutOfMemory>
     ensures refusal { IfOk result (λ read. read.refusal ≡ first_refusal (prelude_refusals prelude.now end)) }
-    ensures value { IfOk result (λ read. read.refusal ≡ None → read.value ≡ list_of prelude.now) }
+    ensures value { IfOk result (λ read. read.refusal ≡ None → prelude_of prelude.now ≡ Some read.value) }
 {
     if let Some(refusal) = sought_in(prelude, Sought::ColonOrBracket) {
         return Ok(Judged {
@@ -204,7 +238,7 @@ fn read_prelude<'a>(
         }),
         Err(SelectorFault::Syntax(at)) => Ok(Judged {
             value: List::new(alloc),
-            refusal: sooner_of(nested, Some(Refusal::Syntax(at))),
+            refusal: sooner_of(nested, Some(Refusal::syntax(at))),
         }),
         Err(SelectorFault::Memory) => Err(OutOfMemory),
     }
@@ -231,54 +265,57 @@ fn first_place(components: &[Component], otherwise: u32) -> u32
 }
 
 /// A style rule.
-fn read_rule<'a>(
+fn read_style<'a>(
     alloc: Global,
     prelude: &[Component<'a>],
     block: &Component<'a>,
 ) -> Result<Judged<Option<Item<'a>>>, OutOfMemory>
-    ensures refusal { IfOk result (λ read. read.refusal ≡ first_refusal (prelude_refusals prelude.now (head block.now).at ++ block_refusals (inside block.now))) }
-    ensures value { IfOk result (λ read. read.refusal ≡ None → option_to_list read.value ≡ rule_of prelude.now (Some block.now)) }
+    ensures refusal { IfOk result (λ read. read.refusal ≡ first_refusal (style_refusals prelude.now (Some block.now))) }
+    ensures value { IfOk result (λ read. read.refusal ≡ None → style_of prelude.now (Some block.now) ≡ Some (option_to_list read.value)) }
 {
     let opening = head_of(block).at;
     let selectors = read_prelude(alloc, prelude, opening)?;
-    let items = read_block(alloc, inside(block))?;
-    let refusal = sooner_of(selectors.refusal, items.refusal);
+    let declarations = read_block(alloc, inside(block))?;
+    let refusal = sooner_of(selectors.refusal, declarations.refusal);
     let Judged {
         value: selectors,
         refusal: _,
     } = selectors;
     let Judged {
-        value: items,
+        value: declarations,
         refusal: _,
-    } = items;
+    } = declarations;
     Ok(Judged {
         value: Some(Item::Style(Style {
             selectors,
-            items,
+            items: run_of(alloc, declarations)?,
             at: first_place(trimmed(prelude), opening),
         })),
         refusal,
     })
 }
 
-/// What stands before a `{}` block and the block, or what stands behind the last one.
-fn read_cut<'a>(
+/// What stands at the top before a mark and the mark, or what stands behind the last one.
+fn read_rule<'a>(
     alloc: Global,
-    prelude: &[Component<'a>],
-    block: Option<&Component<'a>>,
+    front: &[Component<'a>],
+    mark: Option<&Component<'a>>,
 ) -> Result<Judged<Option<Item<'a>>>, OutOfMemory>
-    ensures refusal { IfOk result (λ read. read.refusal ≡ first_refusal (rule_refusals (record { front = prelude.now; mark = option_copied block.entry }))) }
-    ensures value { IfOk result (λ read. read.refusal ≡ None → option_to_list read.value ≡ rule_of prelude.now (option_copied block.entry)) }
+    ensures refusal { IfOk result (λ read. read.refusal ≡ first_refusal (rule_refusals (record { front = front.now; mark = option_copied mark.entry }))) }
+    ensures value { IfOk result (λ read. read.refusal ≡ None → rule_of (record { front = front.now; mark = option_copied mark.entry }) ≡ Some (option_to_list read.value)) }
 {
-    match (trimmed(prelude), block) {
-        ([first, ..], _) if is_at_keyword(first) => Ok(Judged {
+    let rule = trimmed(front);
+    if begins_at_rule(rule) {
+        return Ok(Judged {
             value: None,
-            refusal: Some(Refusal::Unbuilt(head_of(first).at)),
-        }),
-        (_, Some(block)) => read_rule(alloc, prelude, block),
+            refusal: Some(Refusal::unbuilt(first_place(rule, 0))),
+        });
+    }
+    match (rule, mark) {
+        (_, Some(block)) => read_style(alloc, front, block),
         ([first, ..], None) => Ok(Judged {
             value: None,
-            refusal: Some(Refusal::Syntax(head_of(first).at)),
+            refusal: Some(Refusal::syntax(head_of(first).at)),
         }),
         ([], None) => Ok(Judged {
             value: None,
@@ -293,7 +330,7 @@ pub fn read_sheet<'a>(
     text: &[Component<'a>],
     _end: u32,
 ) -> Result<Sheet<'a>, RuleFault>
-    ensures found { IfOk result (λ sheet. sheet ≡ sheet_of text.now) }
+    ensures found { IfOk result (λ sheet. sheet_of text.now ≡ Some sheet) }
     ensures faultless { IfOk result (λ _. sheet_refusals text.now ≡ []) }
     ensures fault { IfErr result (λ fault. IsNamed fault (first_refusal (sheet_refusals text.now))) }
     ensures least { IfErr result (λ fault. IsLeast fault (sheet_refusals text.now)) }
@@ -310,9 +347,9 @@ pub fn read_sheet<'a>(
 fn fault_of(refusal: Refusal) -> RuleFault
     ensures { result ≡ fault_of refusal }
 {
-    match refusal {
-        Refusal::Syntax(at) => RuleFault::Syntax(at),
-        Refusal::Unbuilt(at) => RuleFault::Unbuilt(at),
+    match refusal.cause {
+        Cause::Syntax => RuleFault::Syntax(refusal.at),
+        Cause::Unbuilt => RuleFault::Unbuilt(refusal.at),
     }
 }
 
@@ -322,14 +359,14 @@ fn read_rules<'a>(
     text: &[Component<'a>],
 ) -> Result<Judged<List<Item<'a>>>, OutOfMemory>
     ensures refusal { IfOk result (λ read. read.refusal ≡ first_refusal (sheet_refusals text.now)) }
-    ensures value { IfOk result (λ read. read.refusal ≡ None → read.value ≡ rules_of text.now) }
+    ensures value { IfOk result (λ read. read.refusal ≡ None → rules_of text.now ≡ Some read.value) }
 {
     let mut items = List::new(alloc);
     let mut refusal = None;
     let mut from = 0;
     while from <= text.len() {
-        let end = end_of_cut(text, from, Mark::Braces);
-        let rule = read_cut(alloc, &text[from..end], mark_at(text, end))?;
+        let end = end_of_cut(text, from, rule_mark(&text[from..]));
+        let rule = read_rule(alloc, &text[from..end], mark_at(text, end))?;
         refusal = sooner_of(refusal, rule.refusal);
         let Judged { value, refusal: _ } = rule;
         push_some(&mut items, value)?;

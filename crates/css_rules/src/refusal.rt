@@ -1,19 +1,27 @@
 ghost use Rattle.std.specs.Prelude.{◌≡◌, ◌∷◌, [], find};
 ghost use Rattle.css_tokens.specs.declared.component.Component.{Block as the_block};
 ghost use Rattle.css_tokens.specs.Trees.{pieces_of, pieces_all};
-ghost use Rattle.css_rules.specs.Refusals.{sooner_of, is_sought, sought_in, first_refusal, sooner, is_colon_or_bracket, is_ampersand, is_revert_layer, is_url};
+ghost use Rattle.css_rules.specs.Refusals.{sooner_of, is_sought, sought_in, first_refusal, leads, rank, sooner, syntax, unbuilt, is_colon_or_bracket, is_ampersand, is_revert_layer, is_url};
 ghost use Rattle.std.specs.Option.{option_map};
 
 use crate::parts::is_keyword;
 use css_tokens::{Block, Component, Kind, Token};
 
-/// What a sheet is refused for, with its place in bytes of the source.
+/// Why a sheet is refused. Of two causes at one place the one that stands first here is named.
 #[derive(Clone, Copy, Debug)]
-pub enum Refusal {
-    /// It cannot be read.
-    Syntax(u32),
+pub enum Cause {
     /// It is a construct that is not built yet.
-    Unbuilt(u32),
+    Unbuilt,
+    /// It cannot be read.
+    Syntax,
+}
+
+/// What a sheet is refused for.
+#[derive(Clone, Copy, Debug)]
+pub struct Refusal {
+    /// How many bytes of the source stand before it.
+    pub at: u32,
+    pub cause: Cause,
 }
 
 /// The tokens of constructs that are not built yet.
@@ -29,23 +37,51 @@ pub enum Sought {
     RevertLayerOrUrl,
 }
 
+impl Cause {
+    /// Its place in the order of causes.
+    fn rank(self) -> u8
+        ensures { result ≡ rank self }
+    {
+        match self {
+            Cause::Unbuilt => 0,
+            Cause::Syntax => 1,
+        }
+    }
+}
+
 impl Refusal {
-    /// Of two refusals the one at the lesser place, and of two at one place the construct that is not built yet.
+    /// It cannot be read.
+    pub fn syntax(at: u32) -> Refusal
+        ensures { result ≡ syntax at }
+    {
+        Refusal {
+            at,
+            cause: Cause::Syntax,
+        }
+    }
+
+    /// It is not built yet.
+    pub fn unbuilt(at: u32) -> Refusal
+        ensures { result ≡ unbuilt at }
+    {
+        Refusal {
+            at,
+            cause: Cause::Unbuilt,
+        }
+    }
+
+    /// Whether it comes first of two in the order of refusals: by place, and at one place by cause.
+    fn leads(self, other: Refusal) -> bool
+        ensures { result ≡ leads self other }
+    {
+        self.at < other.at || (self.at == other.at && self.cause.rank() <= other.cause.rank())
+    }
+
+    /// Of two refusals the one that is named.
     fn sooner(self, other: Refusal) -> Refusal
         ensures { result ≡ sooner self other }
     {
-        match (self, other) {
-            (Refusal::Syntax(a), Refusal::Syntax(b)) => Refusal::Syntax(if b < a { b } else { a }),
-            (Refusal::Syntax(a), Refusal::Unbuilt(b)) if a < b => Refusal::Syntax(a),
-            (Refusal::Syntax(_), Refusal::Unbuilt(b)) => Refusal::Unbuilt(b),
-            (Refusal::Unbuilt(a), Refusal::Syntax(b)) if b < a => Refusal::Syntax(b),
-            (Refusal::Unbuilt(a), Refusal::Syntax(_)) => Refusal::Unbuilt(a),
-            (Refusal::Unbuilt(a), Refusal::Unbuilt(b)) => Refusal::Unbuilt(if b < a {
-                b
-            } else {
-                a
-            }),
-        }
+        if self.leads(other) { self } else { other }
     }
 }
 
@@ -158,7 +194,7 @@ pub fn sought_in(components: &[Component], sought: Sought) -> Option<Refusal>
     ensures { result ≡ first_refusal (sought_in sought components.now) }
 {
     match sought_in_all(components, sought) {
-        Some(at) => Some(Refusal::Unbuilt(at)),
+        Some(at) => Some(Refusal::unbuilt(at)),
         None => None,
     }
 }

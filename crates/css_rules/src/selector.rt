@@ -4,7 +4,10 @@ mod sign;
 mod write;
 
 use css_tokens::{List, Text};
-pub use laws::{selector_text_reads, selector_words_are_neighbours, selectors_are_read_again};
+pub use laws::{
+    lists_have_readings_or_faults, selector_text_reads, selector_words_are_neighbours,
+    selectors_are_read_again,
+};
 pub use read::{SelectorFault, read_list};
 pub use write::write_list;
 

@@ -5,28 +5,28 @@ ghost use Rattle.css_tokens.specs.Tokens.{Reads};
 ghost use Rattle.css_rules.specs.Printable.{ArePrintable};
 ghost use Rattle.css_rules.specs.ReadableSelectors.{is_spelled};
 ghost use Rattle.css_rules.specs.Runs.{Run, bare_run, bare_runs, runs_of};
-ghost use Rattle.css_rules.specs.Sheets.{sheet_of, sheet_refusals};
+ghost use Rattle.css_rules.specs.Sheets.{sheet_of};
+ghost use Rattle.css_rules.specs.declared.sheet.Sheet.{Sheet};
 ghost use Rattle.css_tokens.specs.Trees.{all_formed, words_all};
 ghost use Rattle.css_tokens.specs.declared.component.Component.{Component};
 ghost use Rattle.std.specs.List.{list_all};
-ghost use Rattle.std.specs.Prelude.{◌≡◌, List, [], IsTrue, map};
+ghost use Rattle.std.specs.Option.{option_map};
+ghost use Rattle.std.specs.Prelude.{◌≡◌, List, Some, IsTrue, map};
 
-/// What a list of components is read as is printable, where nothing in the list is refused, its components are well formed
-/// and its Idents spell Idents: each run is of one style rule, with selectors that have a spelling and no `&`, and each of
-/// its declarations, of which there is at least one, is written as it was read. No rule of it is nested, so that it prints
-/// as its runs do.
+/// The sheet that components spell is printable, where they are well formed and their Idents spell Idents: each run is of one
+/// style rule, with selectors that have a spelling and no `&`, and each of its declarations, of which there is at least one,
+/// is written as it was read. No rule of it is nested, so that it prints as its runs do.
 pub fn sheets_are_printable()
-    ensures flat { (cs : List Component) → sheet_text (sheet_of cs) ≡ runs_text (runs_of (sheet_of cs)) }
-    ensures printable { (cs : List Component) → sheet_refusals cs ≡ [] → IsTrue (all_formed cs) → IsTrue (list_all is_spelled (words_all cs)) → ArePrintable (runs_of (sheet_of cs)) }
+    ensures flat { (cs : List Component) (sheet : Sheet) → sheet_of cs ≡ Some sheet → sheet_text sheet ≡ runs_text (runs_of sheet) }
+    ensures printable { (cs : List Component) (sheet : Sheet) → sheet_of cs ≡ Some sheet → IsTrue (all_formed cs) → IsTrue (list_all is_spelled (words_all cs)) → ArePrintable (runs_of sheet) }
 {}
 
 /// The text that printable runs print as reads as components that say the same: its tokens are their words, their brackets
-/// are paired, and nothing in them is refused.
+/// are paired, and they spell a sheet with these runs, places aside.
 pub fn sheets_are_read_again()
     ensures reads { (runs : List Run) → ArePrintable runs → AllStand runs → Reads (runs_text runs) (words_all (sheet_again runs)) }
     ensures formed { (runs : List Run) → ArePrintable runs → IsTrue (all_formed (sheet_again runs)) }
-    ensures faultless { (runs : List Run) → ArePrintable runs → sheet_refusals (sheet_again runs) ≡ [] }
-    ensures same { (runs : List Run) → ArePrintable runs → bare_runs (sheet_of (sheet_again runs)) ≡ map bare_run runs }
+    ensures same { (runs : List Run) → ArePrintable runs → option_map bare_runs (sheet_of (sheet_again runs)) ≡ Some (map bare_run runs) }
 {
     css_tokens::printed_again();
     css_tokens::one_pairing();

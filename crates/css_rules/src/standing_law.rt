@@ -1,10 +1,11 @@
 ghost use Rattle.css_rules.specs.Runs.{runs_of};
-ghost use Rattle.css_rules.specs.Sheets.{sheet_of, sheet_refusals};
+ghost use Rattle.css_rules.specs.Sheets.{sheet_of};
 ghost use Rattle.css_rules.specs.Standing.{AllStand};
+ghost use Rattle.css_rules.specs.declared.sheet.Sheet.{Sheet};
 ghost use Rattle.css_tokens.specs.Tokens.{Reads};
 ghost use Rattle.css_tokens.specs.Trees.{all_formed, words_all};
 ghost use Rattle.css_tokens.specs.declared.component.Component.{Component};
-ghost use Rattle.std.specs.Prelude.{◌≡◌, ℕ, List, [], IsTrue};
+ghost use Rattle.std.specs.Prelude.{◌≡◌, ℕ, List, Some, IsTrue};
 
 use css_tokens::values_again;
 
@@ -12,7 +13,7 @@ use css_tokens::values_again;
 /// the tokens of the value are read there one after another, and behind them is the end of the text, white space, a
 /// comment, `;`, a closing bracket, or the `!` of `!important`.
 pub fn values_stand()
-    ensures { (text : List ℕ) (cs : List Component) → Reads text (words_all cs) → IsTrue (all_formed cs) → sheet_refusals cs ≡ [] → AllStand (runs_of (sheet_of cs)) }
+    ensures { (text : List ℕ) (cs : List Component) (sheet : Sheet) → Reads text (words_all cs) → IsTrue (all_formed cs) → sheet_of cs ≡ Some sheet → AllStand (runs_of sheet) }
 {
     values_again();
 }

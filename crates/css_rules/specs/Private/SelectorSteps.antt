@@ -21,7 +21,7 @@ use Rattle.css_rules.specs.declared.selector.read.Phase.TheVariants.{Due, Inside
 use Rattle.css_rules.specs.declared.selector.read.Reading.{Reading}
 use Rattle.css_rules.specs.declared.selector.read.Pending.{Pending}
 use Rattle.css_rules.specs.Signs.{sign_of, place_of, is_gap}
-use Rattle.css_rules.specs.Selectors.{cut_at_commas, selector_of, fault_of}
+use Rattle.css_rules.specs.Selectors.{cut_at_commas, members_of, selector_of, fault_of}
 
 -- a combinator with the compound behind it
 abbrev pub link : Combinator → Compound → Link
@@ -131,6 +131,10 @@ pending_selector p = concluded (unwrap_or p.place 0) p.reading.phase p.reading.f
 -- where the member is refused if it may not end here: at its first token that is neither white space nor a comment, else at this stop
 abbrev pub pending_fault : Pending → ℕ → Option ℕ
 pending_fault p stop = if is_some (pending_selector p) then None else Some (unwrap_or p.place stop)
+
+-- the selectors of those members of a list that spell one
+abbrev pub selectors_in : List Component → List Selector
+selectors_in cs = filter_map (λ m. selector_of m.components) (members_of cs)
 
 -- the selectors of a list whose first member has begun with what is pending
 abbrev pub list_from : Pending → List Component → List Selector

@@ -1,12 +1,12 @@
-//! Worked examples of what spells declarations and sheets (CSS Syntax 3, section 5.4), of what a sheet is refused for, and of
+//! Worked examples of what spells declarations and sheets (CSS syntax 3, section 5.4), of what a sheet is refused for, and of
 //! how it prints.
 #![tactic(auto, using(crate::proofs::Computing::computing))]
 
 ghost use Rattle.std.specs.Prelude.{◌≡◌, List, [], ◌∷◌, Some, None, codes};
-ghost use Rattle.css_rules.specs.declared.refusal.Refusal.TheVariants.{Syntax, Unbuilt};
+ghost use Rattle.std.specs.Option.{option_map};
 ghost use Rattle.css_rules.specs.declared.sheet.Item.{Style, Plain};
 ghost use Rattle.css_rules.specs.Declarations.{declaration_of};
-ghost use Rattle.css_rules.specs.Refusals.{first_refusal};
+ghost use Rattle.css_rules.specs.Refusals.{first_refusal, syntax, unbuilt};
 ghost use Rattle.css_rules.specs.Runs.{bare_runs};
 ghost use Rattle.css_rules.specs.Sheets.{sheet_of, sheet_refusals};
 ghost use Rattle.css_rules.specs.SheetTexts.{sheet_text};
@@ -39,71 +39,102 @@ pub fn no_declarations()
 
 /// The sheet that components spell, with its places. What stands behind the last block is no rule.
 pub fn sheets_are_spelled()
-    ensures empty { sheet_of [] ≡ record { items = [] } }
-    ensures rule { sheet_of (source (space ∷ ident "a" ∷ braces (ident "b" ∷ colon ∷ ident "c" ∷ []) ∷ [])) ≡ record { items = Style (record { selectors = type_at 1 "a" ∷ []; items = Plain (unmarked 3 "b" (laid 5 (ident "c" ∷ [])) ∷ []) ∷ []; at = 1 }) ∷ [] } }
-    ensures no_declaration { sheet_of (source (ident "a" ∷ braces (semicolon ∷ comment ∷ []) ∷ ident "b" ∷ [])) ≡ record { items = Style (record { selectors = type_at 0 "a" ∷ []; items = []; at = 0 }) ∷ [] } }
+    ensures empty { sheet_of [] ≡ Some (record { items = [] }) }
+    ensures rule { sheet_of (source (space ∷ ident "a" ∷ braces (ident "b" ∷ colon ∷ ident "c" ∷ []) ∷ [])) ≡ Some (record { items = Style (record { selectors = type_at 1 "a" ∷ []; items = Plain (unmarked 3 "b" (laid 5 (ident "c" ∷ [])) ∷ []) ∷ []; at = 1 }) ∷ [] }) }
+    ensures no_declaration { sheet_of (source (ident "a" ∷ braces (semicolon ∷ comment ∷ []) ∷ space ∷ [])) ≡ Some (record { items = Style (record { selectors = type_at 0 "a" ∷ []; items = []; at = 0 }) ∷ [] }) }
+    ensures no_rule_behind { sheet_of (source (ident "a" ∷ braces (semicolon ∷ comment ∷ []) ∷ ident "b" ∷ [])) ≡ None }
+    ensures two_colons { sheet_of (source (ident "p" ∷ braces (ident "a" ∷ colon ∷ ident "b" ∷ space ∷ ident "c" ∷ colon ∷ ident "d" ∷ []) ∷ [])) ≡ Some (record { items = Style (record { selectors = type_at 0 "p" ∷ []; items = Plain (unmarked 2 "a" (laid 4 (ident "b" ∷ space ∷ ident "c" ∷ colon ∷ ident "d" ∷ [])) ∷ []) ∷ []; at = 0 }) ∷ [] }) }
+    ensures block_of_a_custom { sheet_of (source (ident "p" ∷ braces (ident "--x" ∷ colon ∷ braces (ident "a" ∷ []) ∷ ident "b" ∷ semicolon ∷ ident "c" ∷ colon ∷ ident "d" ∷ []) ∷ [])) ≡ Some (record { items = Style (record { selectors = type_at 0 "p" ∷ []; items = Plain (unmarked 2 "--x" (laid 6 (braces (ident "a" ∷ []) ∷ ident "b" ∷ [])) ∷ unmarked 11 "c" (laid 13 (ident "d" ∷ [])) ∷ []) ∷ []; at = 0 }) ∷ [] }) }
+{}
+
+/// What has no sheet: an item that spells no declaration, alone or beside one that does, and each construct that is not built yet.
+pub fn no_sheets()
+    ensures number_for_a_name { sheet_of (source (ident "p" ∷ braces (number "1" ∷ colon ∷ ident "a" ∷ []) ∷ [])) ≡ None }
+    ensures beside_a_declaration { sheet_of (source (ident "p" ∷ braces (number "1" ∷ colon ∷ ident "a" ∷ semicolon ∷ ident "color" ∷ colon ∷ ident "red" ∷ []) ∷ [])) ≡ None }
+    ensures behind_a_declaration { sheet_of (source (ident "p" ∷ braces (ident "color" ∷ colon ∷ ident "red" ∷ semicolon ∷ dot ∷ ident "b" ∷ []) ∷ [])) ≡ None }
+    ensures class { sheet_of (source (ident "p" ∷ braces (dot ∷ ident "b" ∷ []) ∷ [])) ≡ None }
+    ensures colon_first { sheet_of (source (ident "p" ∷ braces (colon ∷ ident "x" ∷ []) ∷ [])) ≡ None }
+    ensures name_alone { sheet_of (source (ident "p" ∷ braces (ident "a" ∷ []) ∷ [])) ≡ None }
+    ensures no_selector { sheet_of (source (ident "p" ∷ braces [] ∷ braces [] ∷ [])) ≡ None }
+    ensures at_rule { sheet_of (source (at_keyword "@a" ∷ semicolon ∷ ident "p" ∷ braces [] ∷ [])) ≡ None }
+    ensures pseudo_class { sheet_of (source (ident "a" ∷ colon ∷ ident "b" ∷ braces [] ∷ [])) ≡ None }
+    ensures nesting { sheet_of (source (delim "&" ∷ braces [] ∷ [])) ≡ None }
+    ensures nested_rule { sheet_of (source (ident "p" ∷ braces (ident "a" ∷ braces [] ∷ []) ∷ [])) ≡ None }
+    ensures nested_at_rule { sheet_of (source (ident "p" ∷ braces (at_keyword "@a" ∷ []) ∷ [])) ≡ None }
+    ensures property { sheet_of (source (ident "p" ∷ braces (ident "float" ∷ colon ∷ ident "left" ∷ []) ∷ [])) ≡ None }
+    ensures value { sheet_of (source (ident "p" ∷ braces (ident "a" ∷ colon ∷ url "url(x)" ∷ []) ∷ [])) ≡ None }
 {}
 
 /// What the cascade knows of a sheet: the declarations of each rule in order.
 pub fn runs_of_sheets()
-    ensures rule { bare_runs (sheet_of (source (dot ∷ ident "a" ∷ braces (ident "color" ∷ colon ∷ ident "red" ∷ []) ∷ []))) ≡ run (one (untyped (class "a" ∷ [])) ∷ []) (bare "color" "red" ∷ []) ∷ [] }
-    ensures no_declaration { bare_runs (sheet_of (source (ident "p" ∷ braces (semicolon ∷ comment ∷ []) ∷ []))) ≡ [] }
-    ensures two_declarations { bare_runs (sheet_of (source (ident "a" ∷ braces (ident "b" ∷ colon ∷ ident "c" ∷ semicolon ∷ ident "d" ∷ colon ∷ ident "e" ∷ []) ∷ []))) ≡ run (one (typed "a" []) ∷ []) (bare "b" "c" ∷ bare "d" "e" ∷ []) ∷ [] }
-    ensures two_rules { bare_runs (sheet_of (source (ident "a" ∷ braces (ident "b" ∷ colon ∷ ident "c" ∷ []) ∷ ident "d" ∷ braces (ident "e" ∷ colon ∷ ident "f" ∷ []) ∷ []))) ≡ run (one (typed "a" []) ∷ []) (bare "b" "c" ∷ []) ∷ run (one (typed "d" []) ∷ []) (bare "e" "f" ∷ []) ∷ [] }
+    ensures rule { option_map bare_runs (sheet_of (source (dot ∷ ident "a" ∷ braces (ident "color" ∷ colon ∷ ident "red" ∷ []) ∷ []))) ≡ Some (run (one (untyped (class "a" ∷ [])) ∷ []) (bare "color" "red" ∷ []) ∷ []) }
+    ensures no_declaration { option_map bare_runs (sheet_of (source (ident "p" ∷ braces (semicolon ∷ comment ∷ []) ∷ []))) ≡ Some ([]) }
+    ensures two_declarations { option_map bare_runs (sheet_of (source (ident "a" ∷ braces (ident "b" ∷ colon ∷ ident "c" ∷ semicolon ∷ ident "d" ∷ colon ∷ ident "e" ∷ []) ∷ []))) ≡ Some (run (one (typed "a" []) ∷ []) (bare "b" "c" ∷ bare "d" "e" ∷ []) ∷ []) }
+    ensures two_rules { option_map bare_runs (sheet_of (source (ident "a" ∷ braces (ident "b" ∷ colon ∷ ident "c" ∷ []) ∷ ident "d" ∷ braces (ident "e" ∷ colon ∷ ident "f" ∷ []) ∷ []))) ≡ Some (run (one (typed "a" []) ∷ []) (bare "b" "c" ∷ []) ∷ run (one (typed "d" []) ∷ []) (bare "e" "f" ∷ []) ∷ []) }
 {}
 
 /// How a sheet prints: a rule on a line, without the white space that is not needed.
 pub fn sheets_print()
-    ensures rule { sheet_text (sheet_of (source (dot ∷ ident "a" ∷ braces (ident "color" ∷ colon ∷ ident "red" ∷ []) ∷ []))) ≡ codes ".a{color:red}\n" }
-    ensures nothing { sheet_text (sheet_of []) ≡ [] }
-    ensures no_declaration { sheet_text (sheet_of (source (ident "p" ∷ braces (semicolon ∷ comment ∷ []) ∷ []))) ≡ [] }
-    ensures two_declarations { sheet_text (sheet_of (source (ident "a" ∷ braces (ident "b" ∷ colon ∷ ident "c" ∷ semicolon ∷ ident "d" ∷ colon ∷ ident "e" ∷ []) ∷ []))) ≡ codes "a{b:c;d:e}\n" }
-    ensures two_rules { sheet_text (sheet_of (source (ident "a" ∷ braces (ident "b" ∷ colon ∷ ident "c" ∷ []) ∷ ident "d" ∷ braces (ident "e" ∷ colon ∷ ident "f" ∷ []) ∷ []))) ≡ codes "a{b:c}\nd{e:f}\n" }
-    ensures white_space { sheet_text (sheet_of (source (ident "a" ∷ space ∷ braces (space ∷ ident "b" ∷ space ∷ colon ∷ space ∷ ident "c" ∷ space ∷ []) ∷ []))) ≡ codes "a{b:c}\n" }
-    ensures empty_custom { sheet_text (sheet_of (source (ident "a" ∷ braces (ident "--x" ∷ colon ∷ []) ∷ []))) ≡ codes "a{--x: }\n" }
-    ensures important { sheet_text (sheet_of (source (ident "a" ∷ braces (ident "b" ∷ colon ∷ ident "c" ∷ space ∷ delim "!" ∷ ident "Important" ∷ []) ∷ []))) ≡ codes "a{b:c!important}\n" }
+    ensures rule { option_map sheet_text (sheet_of (source (dot ∷ ident "a" ∷ braces (ident "color" ∷ colon ∷ ident "red" ∷ []) ∷ []))) ≡ Some (codes ".a{color:red}\n") }
+    ensures nothing { option_map sheet_text (sheet_of []) ≡ Some ([]) }
+    ensures no_declaration { option_map sheet_text (sheet_of (source (ident "p" ∷ braces (semicolon ∷ comment ∷ []) ∷ []))) ≡ Some ([]) }
+    ensures two_declarations { option_map sheet_text (sheet_of (source (ident "a" ∷ braces (ident "b" ∷ colon ∷ ident "c" ∷ semicolon ∷ ident "d" ∷ colon ∷ ident "e" ∷ []) ∷ []))) ≡ Some (codes "a{b:c;d:e}\n") }
+    ensures two_rules { option_map sheet_text (sheet_of (source (ident "a" ∷ braces (ident "b" ∷ colon ∷ ident "c" ∷ []) ∷ ident "d" ∷ braces (ident "e" ∷ colon ∷ ident "f" ∷ []) ∷ []))) ≡ Some (codes "a{b:c}\nd{e:f}\n") }
+    ensures white_space { option_map sheet_text (sheet_of (source (ident "a" ∷ space ∷ braces (space ∷ ident "b" ∷ space ∷ colon ∷ space ∷ ident "c" ∷ space ∷ []) ∷ []))) ≡ Some (codes "a{b:c}\n") }
+    ensures empty_custom { option_map sheet_text (sheet_of (source (ident "a" ∷ braces (ident "--x" ∷ colon ∷ []) ∷ []))) ≡ Some (codes "a{--x: }\n") }
+    ensures important { option_map sheet_text (sheet_of (source (ident "a" ∷ braces (ident "b" ∷ colon ∷ ident "c" ∷ space ∷ delim "!" ∷ ident "Important" ∷ []) ∷ []))) ≡ Some (codes "a{b:c!important}\n") }
 {}
 
 /// What a sheet is refused for outside its rules, and that a rule of what is built is not refused.
 pub fn rules_are_refused()
     ensures none { sheet_refusals (source (dot ∷ ident "a" ∷ braces (ident "color" ∷ colon ∷ ident "red" ∷ []) ∷ [])) ≡ [] }
-    ensures at_rule { sheet_refusals (source (at_keyword "@media" ∷ space ∷ ident "print" ∷ braces [] ∷ [])) ≡ Unbuilt 0 ∷ [] }
-    ensures at_rule_without_a_block { sheet_refusals (source (at_keyword "@import" ∷ space ∷ string "'x'" ∷ semicolon ∷ ident "p" ∷ braces [] ∷ [])) ≡ Unbuilt 0 ∷ [] }
-    ensures no_block { sheet_refusals (source (ident "p" ∷ braces [] ∷ space ∷ ident "q" ∷ [])) ≡ Syntax 4 ∷ [] }
+    ensures at_rule { sheet_refusals (source (at_keyword "@media" ∷ space ∷ ident "print" ∷ braces [] ∷ [])) ≡ unbuilt 0 ∷ [] }
+    ensures at_rule_without_a_block { sheet_refusals (source (at_keyword "@import" ∷ space ∷ string "'x'" ∷ semicolon ∷ ident "p" ∷ braces [] ∷ [])) ≡ unbuilt 0 ∷ [] }
+    ensures no_block { sheet_refusals (source (ident "p" ∷ braces [] ∷ space ∷ ident "q" ∷ [])) ≡ syntax 4 ∷ [] }
+    ensures at_rule_before_a_rule { sheet_refusals (source (at_keyword "@media" ∷ space ∷ ident "print" ∷ semicolon ∷ dot ∷ dot ∷ ident "a" ∷ braces [] ∷ [])) ≡ unbuilt 0 ∷ syntax 13 ∷ [] }
     ensures comment_behind { sheet_refusals (source (ident "p" ∷ braces [] ∷ space ∷ comment ∷ [])) ≡ [] }
 {}
 
 /// What a sheet is refused for in front of the block of a rule.
 pub fn preludes_are_refused()
-    ensures pseudo_class { sheet_refusals (source (ident "a" ∷ colon ∷ ident "hover" ∷ braces (ident "color" ∷ colon ∷ ident "red" ∷ []) ∷ [])) ≡ Unbuilt 1 ∷ [] }
-    ensures attribute { sheet_refusals (source (brackets (ident "x" ∷ []) ∷ braces [] ∷ [])) ≡ Unbuilt 0 ∷ [] }
-    ensures colon_at_any_depth { sheet_refusals (source (call "a(" (ident "b" ∷ colon ∷ ident "c" ∷ []) ∷ braces [] ∷ [])) ≡ Unbuilt 3 ∷ [] }
-    ensures colon_alone_is_named { sheet_refusals (source (ident "a" ∷ colon ∷ ident "b" ∷ comma ∷ comma ∷ delim "&" ∷ braces [] ∷ [])) ≡ Unbuilt 1 ∷ [] }
-    ensures nesting { sheet_refusals (source (delim "&" ∷ ident "p" ∷ braces [] ∷ [])) ≡ Unbuilt 0 ∷ Syntax 0 ∷ [] }
-    ensures nesting_is_named { first_refusal (sheet_refusals (source (delim "&" ∷ ident "p" ∷ braces [] ∷ []))) ≡ Some (Unbuilt 0) }
-    ensures first_of_two_that_are_no_selectors { sheet_refusals (source (ident "a" ∷ comma ∷ comma ∷ dot ∷ braces [] ∷ [])) ≡ Syntax 2 ∷ [] }
-    ensures nothing_before_the_block { sheet_refusals (source (ident "a" ∷ comma ∷ braces [] ∷ [])) ≡ Syntax 2 ∷ [] }
-    ensures no_selector { sheet_refusals (source (braces [] ∷ [])) ≡ Syntax 0 ∷ [] }
+    ensures pseudo_class { sheet_refusals (source (ident "a" ∷ colon ∷ ident "hover" ∷ braces (ident "color" ∷ colon ∷ ident "red" ∷ []) ∷ [])) ≡ unbuilt 1 ∷ [] }
+    ensures attribute { sheet_refusals (source (brackets (ident "x" ∷ []) ∷ braces [] ∷ [])) ≡ unbuilt 0 ∷ [] }
+    ensures colon_at_any_depth { sheet_refusals (source (call "a(" (ident "b" ∷ colon ∷ ident "c" ∷ []) ∷ braces [] ∷ [])) ≡ unbuilt 3 ∷ [] }
+    ensures colon_alone_is_named { sheet_refusals (source (ident "a" ∷ colon ∷ ident "b" ∷ comma ∷ comma ∷ delim "&" ∷ braces [] ∷ [])) ≡ unbuilt 1 ∷ [] }
+    ensures nesting { sheet_refusals (source (delim "&" ∷ ident "p" ∷ braces [] ∷ [])) ≡ unbuilt 0 ∷ syntax 0 ∷ [] }
+    ensures nesting_is_named { first_refusal (sheet_refusals (source (delim "&" ∷ ident "p" ∷ braces [] ∷ []))) ≡ Some (unbuilt 0) }
+    ensures first_of_two_that_are_no_selectors { sheet_refusals (source (ident "a" ∷ comma ∷ comma ∷ dot ∷ braces [] ∷ [])) ≡ syntax 2 ∷ [] }
+    ensures nothing_before_the_block { sheet_refusals (source (ident "a" ∷ comma ∷ braces [] ∷ [])) ≡ syntax 2 ∷ [] }
+    ensures no_selector { sheet_refusals (source (braces [] ∷ [])) ≡ syntax 0 ∷ [] }
 {}
 
 /// What a sheet is refused for in the block of a rule.
 pub fn items_are_refused()
-    ensures at_rule { sheet_refusals (source (ident "p" ∷ braces (at_keyword "@media" ∷ space ∷ ident "x" ∷ braces [] ∷ []) ∷ [])) ≡ Unbuilt 2 ∷ [] }
-    ensures at_rule_without_a_block { sheet_refusals (source (ident "p" ∷ braces (at_keyword "@layer" ∷ space ∷ ident "x" ∷ semicolon ∷ []) ∷ [])) ≡ Unbuilt 2 ∷ [] }
-    ensures rule { sheet_refusals (source (ident "p" ∷ braces (ident "a" ∷ braces [] ∷ []) ∷ [])) ≡ Unbuilt 2 ∷ [] }
-    ensures block_of_a_custom { sheet_refusals (source (ident "p" ∷ braces (ident "--x" ∷ colon ∷ braces [] ∷ []) ∷ [])) ≡ [] }
-    ensures property { sheet_refusals (source (ident "p" ∷ braces (ident "margin-inline" ∷ colon ∷ number "0" ∷ []) ∷ [])) ≡ Unbuilt 2 ∷ [] }
-    ensures property_without_a_value { sheet_refusals (source (ident "p" ∷ braces (ident "inline-size" ∷ colon ∷ []) ∷ [])) ≡ Syntax 2 ∷ [] }
-    ensures both { sheet_refusals (source (ident "p" ∷ braces (ident "color" ∷ semicolon ∷ ident "float" ∷ colon ∷ ident "left" ∷ []) ∷ [])) ≡ Syntax 2 ∷ Unbuilt 8 ∷ [] }
-    ensures first_of_both { first_refusal (sheet_refusals (source (ident "p" ∷ braces (ident "color" ∷ semicolon ∷ ident "float" ∷ colon ∷ ident "left" ∷ []) ∷ []))) ≡ Some (Syntax 2) }
+    ensures at_rule { sheet_refusals (source (ident "p" ∷ braces (at_keyword "@media" ∷ space ∷ ident "x" ∷ braces [] ∷ []) ∷ [])) ≡ unbuilt 2 ∷ [] }
+    ensures at_rule_without_a_block { sheet_refusals (source (ident "p" ∷ braces (at_keyword "@layer" ∷ space ∷ ident "x" ∷ semicolon ∷ []) ∷ [])) ≡ unbuilt 2 ∷ [] }
+    ensures rule { sheet_refusals (source (ident "p" ∷ braces (ident "a" ∷ braces [] ∷ []) ∷ [])) ≡ unbuilt 2 ∷ [] }
+    ensures declaration_behind_a_rule { sheet_refusals (source (ident "p" ∷ braces (ident "a" ∷ braces (ident "b" ∷ colon ∷ ident "c" ∷ []) ∷ ident "d" ∷ colon ∷ ident "e" ∷ []) ∷ [])) ≡ unbuilt 2 ∷ [] }
+    ensures block_in_a_value { sheet_refusals (source (ident "p" ∷ braces (ident "a" ∷ colon ∷ braces (ident "b" ∷ []) ∷ ident "c" ∷ semicolon ∷ ident "d" ∷ colon ∷ ident "e" ∷ []) ∷ [])) ≡ unbuilt 2 ∷ syntax 7 ∷ [] }
+    ensures block_alone { sheet_refusals (source (ident "p" ∷ braces (space ∷ braces [] ∷ []) ∷ [])) ≡ unbuilt 3 ∷ [] }
+    ensures block_of_a_custom { sheet_refusals (source (ident "p" ∷ braces (ident "--x" ∷ colon ∷ braces (ident "a" ∷ []) ∷ ident "b" ∷ semicolon ∷ ident "c" ∷ colon ∷ ident "d" ∷ []) ∷ [])) ≡ [] }
+    ensures number_for_a_name { sheet_refusals (source (ident "p" ∷ braces (number "1" ∷ colon ∷ ident "a" ∷ []) ∷ [])) ≡ syntax 2 ∷ [] }
+    ensures beside_a_declaration { sheet_refusals (source (ident "p" ∷ braces (number "1" ∷ colon ∷ ident "a" ∷ semicolon ∷ ident "color" ∷ colon ∷ ident "red" ∷ []) ∷ [])) ≡ syntax 2 ∷ [] }
+    ensures class { sheet_refusals (source (ident "p" ∷ braces (dot ∷ ident "b" ∷ []) ∷ [])) ≡ syntax 2 ∷ [] }
+    ensures colon_first { sheet_refusals (source (ident "p" ∷ braces (colon ∷ ident "x" ∷ []) ∷ [])) ≡ syntax 2 ∷ [] }
+    ensures name_alone { sheet_refusals (source (ident "p" ∷ braces (ident "a" ∷ []) ∷ [])) ≡ syntax 2 ∷ [] }
+    ensures two_colons { sheet_refusals (source (ident "p" ∷ braces (ident "a" ∷ colon ∷ ident "b" ∷ space ∷ ident "c" ∷ colon ∷ ident "d" ∷ []) ∷ [])) ≡ [] }
+    ensures property { sheet_refusals (source (ident "p" ∷ braces (ident "margin-inline" ∷ colon ∷ number "0" ∷ []) ∷ [])) ≡ unbuilt 2 ∷ [] }
+    ensures property_without_a_value { sheet_refusals (source (ident "p" ∷ braces (ident "inline-size" ∷ colon ∷ []) ∷ [])) ≡ syntax 2 ∷ [] }
+    ensures both { sheet_refusals (source (ident "p" ∷ braces (ident "color" ∷ semicolon ∷ ident "float" ∷ colon ∷ ident "left" ∷ []) ∷ [])) ≡ syntax 2 ∷ unbuilt 8 ∷ [] }
+    ensures first_of_both { first_refusal (sheet_refusals (source (ident "p" ∷ braces (ident "color" ∷ semicolon ∷ ident "float" ∷ colon ∷ ident "left" ∷ []) ∷ []))) ≡ Some (syntax 2) }
 {}
 
 /// What a sheet is refused for in the value of a declaration.
 pub fn values_are_refused()
-    ensures revert_layer { sheet_refusals (source (ident "p" ∷ braces (ident "color" ∷ colon ∷ ident "revert-layer" ∷ []) ∷ [])) ≡ Unbuilt 8 ∷ [] }
-    ensures revert_layer_of_a_custom { sheet_refusals (source (ident "p" ∷ braces (ident "--x" ∷ colon ∷ ident "revert-layer" ∷ []) ∷ [])) ≡ Unbuilt 6 ∷ [] }
-    ensures url { sheet_refusals (source (ident "p" ∷ braces (ident "background" ∷ colon ∷ url "url(x)" ∷ []) ∷ [])) ≡ Unbuilt 13 ∷ [] }
-    ensures url_of_a_string { sheet_refusals (source (ident "p" ∷ braces (ident "background" ∷ colon ∷ call "url(" (string "'x'" ∷ []) ∷ []) ∷ [])) ≡ Unbuilt 13 ∷ [] }
-    ensures url_at_any_depth { sheet_refusals (source (ident "p" ∷ braces (ident "a" ∷ colon ∷ call "b(" (url "url(x)" ∷ []) ∷ []) ∷ [])) ≡ Unbuilt 6 ∷ [] }
+    ensures revert_layer { sheet_refusals (source (ident "p" ∷ braces (ident "color" ∷ colon ∷ ident "revert-layer" ∷ []) ∷ [])) ≡ unbuilt 8 ∷ [] }
+    ensures revert_layer_of_a_custom { sheet_refusals (source (ident "p" ∷ braces (ident "--x" ∷ colon ∷ ident "revert-layer" ∷ []) ∷ [])) ≡ unbuilt 6 ∷ [] }
+    ensures url { sheet_refusals (source (ident "p" ∷ braces (ident "background" ∷ colon ∷ url "url(x)" ∷ []) ∷ [])) ≡ unbuilt 13 ∷ [] }
+    ensures url_of_a_string { sheet_refusals (source (ident "p" ∷ braces (ident "background" ∷ colon ∷ call "url(" (string "'x'" ∷ []) ∷ []) ∷ [])) ≡ unbuilt 13 ∷ [] }
+    ensures url_at_any_depth { sheet_refusals (source (ident "p" ∷ braces (ident "a" ∷ colon ∷ call "b(" (url "url(x)" ∷ []) ∷ []) ∷ [])) ≡ unbuilt 6 ∷ [] }
     ensures url_of_a_custom { sheet_refusals (source (ident "p" ∷ braces (ident "--x" ∷ colon ∷ url "url(x)" ∷ []) ∷ [])) ≡ [] }
 {}

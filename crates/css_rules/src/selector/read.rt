@@ -326,7 +326,7 @@ pub fn read_list<'a>(
     prelude: &[Component<'a>],
     end: u32,
 ) -> Result<List<Selector<'a>>, SelectorFault>
-    ensures found { IfOk result (λ list. list ≡ list_of prelude.now) }
+    ensures found { IfOk result (λ list. list_of prelude.now ≡ Some list) }
     ensures sound { IfOk result (λ list. list_faults prelude.now end ≡ []) }
     ensures fault { IfErr result (λ e. IsFirstFault e (list_faults prelude.now end)) }
 {

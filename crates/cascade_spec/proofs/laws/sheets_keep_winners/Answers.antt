@@ -1,7 +1,5 @@
 use Rattle.std.proofs.Common.{◌∙◌, ap, sym, flat_map}
 use Rattle.css_rules.specs.RunStatements.{run_says}
-use Rattle.css_rules.specs.Runs.{bare_runs}
-use Rattle.css_rules.specs.Sheets.{sheet_of}
 use Rattle.css_rules.specs.SheetTexts.{sheet_text}
 use Rattle.cascade_spec.proofs.KeepsLemmas.{SheetLaws, again-keeps, one-sheet, reads-again}
 use Rattle.cascade_spec.proofs.laws.sheets_keep_winners.Goals as goal
@@ -19,12 +17,11 @@ returns c =
       standing = c.values_stand.ensures;
       reads = again.reads;
       formed = again.formed;
-      faultless = again.faultless;
       same = again.same;
       places = c.places_do_not_matter.ensures;
     } in
     record {
       again = reads-again laws;
-      kept = λ source cs plain read. again-keeps source (sheet_text (sheet_of cs)) (reads-again laws source cs plain read);
-      one = λ text a b p q. laws.said a ∙ ap (flat_map run_says) (ap bare_runs p.2 ∙ one-sheet laws text p.0 q.0 p.1 q.1 ∙ sym (ap bare_runs q.2)) ∙ sym (laws.said b);
+      kept = λ source sheet plain has. again-keeps source (sheet_text sheet) (reads-again laws source sheet plain has);
+      one = λ text a b p q. laws.said a ∙ ap (flat_map run_says) (one-sheet laws text a b p q) ∙ sym (laws.said b);
     }

@@ -1,25 +1,34 @@
-use Rattle.std.proofs.Common.{◌∙◌, ap, arith, slice_range, slice_get, ◌++◌, ◌+◌}
+use Rattle.std.proofs.Common.{◌∙◌, sym, ap, arith, slice_range, slice_get, ◌++◌, ◌+◌, Some, subst, drop}
+use Rattle.std.proofs.lemmas.List.{take_rest}
 use Rattle.std.specs.Option.{option_to_list}
-use Rattle.css_rules.specs.Components.{is_semicolon}
-use Rattle.css_rules.specs.Cuts.{trimmed}
-use Rattle.css_rules.specs.Declarations.{declaration_of}
+use Rattle.css_rules.specs.Cuts.{Cut}
+use Rattle.css_rules.specs.Private.Marks.{EndsAt, is_mark}
 use Rattle.css_rules.specs.Refusals.{first_refusal}
-use Rattle.css_rules.specs.Sheets.{item_refusals}
-use Rattle.css_rules.proofs.CutLemmas.{cuts_left-step, cuts_left}
+use Rattle.css_rules.specs.Sheets.{ends_item, item_of, item_refusals}
+use Rattle.css_rules.proofs.CutLemmas.{cuts_left, cuts_left-step, first-cut}
+use Rattle.css_rules.proofs.RefusalLemmas.{sooner_of-none_left, sooner_of-none_right}
 use Rattle.css_rules.proofs.ReaderLemmas.{refusal-turn, items-turn}
 use Rattle.css_rules.proofs.reader.read_block.Goals as goal
 
 pub loop-from-preserved : goal.loop-from-preserved
 loop-from-preserved c =
-    let block = c.args.block.now in
+    let text = c.args.block.now in
     let from = c.loop-from.from in
     let end = c.end_of_cut-end.result in
-    let first = cuts_left-step is_semicolon block from end (omega arith) c.end_of_cut-end.ensures.within c.end_of_cut-end.ensures.cut in (
+    let ends = first-cut ends_item (is_mark c.item_mark.result) text from end c.end_of_cut-end.ensures.after c.end_of_cut-end.ensures.within c.end_of_cut-end.ensures.first
+    (subst (EndsAt ends_item (is_mark c.item_mark.result)) (take_rest text from) c.item_mark.ensures) in
+    let first = cuts_left-step ends_item text from end (omega arith) c.end_of_cut-end.ensures.within ends in
+    let cut : Cut = record { front = slice_range text from end; mark = slice_get text end } in (
       omega arith,
-      refusal-turn (λ cut. item_refusals (trimmed cut.front)) (cuts_left is_semicolon block from) (cuts_left is_semicolon block (end + 1))
-          (record { front = slice_range block from end; mark = slice_get block end }) c.loop-from.refusal c.item_refusal.result c.sooner_of-refusal.result _
-          first (c.item_refusal.ensures ∙ ap (λ item. first_refusal (item_refusals item)) c.trimmed-item.ensures) c.sooner_of-refusal.ensures c.loop-from.invariant.1,
-      items-turn (λ cut. option_to_list (declaration_of (trimmed cut.front))) (cuts_left is_semicolon block from) (cuts_left is_semicolon block (end + 1))
-          (record { front = slice_range block from end; mark = slice_get block end }) c.loop-from.declarations c.push_some.new.list _
-          first (c.in_ok-push_some.ensures ∙ ap (λ d. c.loop-from.declarations ++ option_to_list d) (c.in_ok-declaration.ensures ∙ ap declaration_of c.trimmed-item.ensures)) c.loop-from.invariant.2,
+      refusal-turn item_refusals (cuts_left ends_item text from) (cuts_left ends_item text (end + 1)) cut c.loop-from.refusal c.in_ok-item.item.refusal c.sooner_of-refusal.result _
+          first (c.in_ok-item.ensures.refusal ∙ ap (λ mark. first_refusal (item_refusals (record { front = slice_range text from end; mark = mark }))) c.mark_at.ensures)
+          c.sooner_of-refusal.ensures c.loop-from.invariant.1,
+      λ none.
+          let both = sym c.sooner_of-refusal.ensures ∙ none in
+          items-turn item_of (cuts_left ends_item text from) (cuts_left ends_item text (end + 1)) cut c.loop-from.declarations (option_to_list c.in_ok-item.item.value) c.push_some.new.list _
+          first
+          (ap (λ mark. item_of (record { front = slice_range text from end; mark = mark })) (sym c.mark_at.ensures)
+          ∙ c.in_ok-item.ensures.value (sooner_of-none_right c.loop-from.refusal c.in_ok-item.item.refusal both))
+          c.in_ok-push_some.ensures
+          (c.loop-from.invariant.2 (sooner_of-none_left c.loop-from.refusal c.in_ok-item.item.refusal both)),
     )

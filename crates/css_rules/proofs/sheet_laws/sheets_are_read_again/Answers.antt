@@ -1,6 +1,6 @@
 use Rattle.css_rules.proofs.ValueFacts.{ValueLaws}
 use Rattle.css_rules.proofs.SheetRound.{NameLaws}
-use Rattle.css_rules.proofs.RulesAgain.{SelectorLaws, sheet-again, sheet-faultless}
+use Rattle.css_rules.proofs.RulesAgain.{SelectorLaws, sheet-again}
 use Rattle.css_rules.proofs.SheetSpelled.{ListText, formed-sheet}
 use Rattle.css_rules.proofs.SheetReads.{ReadLaws, text-reads}
 use Rattle.css_rules.proofs.sheet_laws.sheets_are_read_again.Goals as goal
@@ -29,6 +29,5 @@ returns c =
     record {
       reads = text-reads reading values texts;
       formed = formed-sheet values texts;
-      faultless = sheet-faultless values names selectors;
       same = sheet-again values names selectors;
     }

@@ -3,7 +3,7 @@ use Rattle.css_rules.proofs.StandSheets.{sheet-stands}
 use Rattle.css_rules.proofs.standing_law.values_stand.Goals as goal
 
 pub returns : goal.returns
-returns c text cs reads formed none =
+returns c text cs sheet reads formed e =
     let laws = c.values_again.ensures in
     sheet-stands (record {
       front = laws.front;
@@ -11,4 +11,4 @@ returns c text cs reads formed none =
       stops = laws.stops;
       bang_gap = λ w rest first gap. laws.bang (w.text ++ rest) (laws.gap w rest first gap);
       bang_important = λ u rest is. laws.bang (u ++ rest) (laws.important u rest is);
-    }) text cs reads
+    }) text cs sheet reads e

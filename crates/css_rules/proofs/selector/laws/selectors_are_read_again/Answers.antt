@@ -1,3 +1,10 @@
+use Rattle.std.proofs.Common.{◌∙◌, Some, ap, sym, subst, option_map}
+use Rattle.std.specs.Prelude.{IsTrue}
+use Rattle.css_rules.specs.BareSelectors.{bare_list}
+use Rattle.css_rules.specs.ReadableSelectors.{is_readable_list}
+use Rattle.css_rules.specs.Selectors.{list_faults, list_of}
+use Rattle.css_rules.proofs.ListsRead.{list-given, list-whole, told-list}
+use Rattle.css_rules.proofs.ReadAllLemmas.{told-read}
 use Rattle.css_rules.proofs.SelectorAgain.{again-same, again-sound}
 use Rattle.css_rules.proofs.SelectorReadable.{readable-list}
 use Rattle.css_rules.proofs.SelectorSpelling.{text-list, formed-list}
@@ -13,7 +20,11 @@ pub returns-clause-sound : goal.returns-clause-sound
 returns-clause-sound c = again-sound c.plain_name.ensures
 
 pub returns-clause-same : goal.returns-clause-same
-returns-clause-same c = again-same c.plain_name.ensures
+returns-clause-same c bs cs readable words =
+    ap (option_map bare_list) (list-whole cs 0 (again-sound c.plain_name.ensures bs cs 0 readable words))
+    ∙ ap Some (again-same c.plain_name.ensures bs cs readable words)
 
 pub returns-clause-readable : goal.returns-clause-readable
-returns-clause-readable c = readable-list
+returns-clause-readable c cs list spelled e =
+    subst (λ selectors. IsTrue (is_readable_list (bare_list selectors))) (sym (list-given cs list e))
+    (readable-list cs 0 spelled (told-read (list_of cs) list (list_faults cs 0) (told-list cs 0) e))

@@ -4,14 +4,14 @@ use Rattle.css_rules.specs.Components.{head, inside}
 use Rattle.css_rules.specs.Refusals.{sooner_of, first_refusal}
 use Rattle.css_rules.specs.Sheets.{prelude_refusals, block_refusals}
 use Rattle.css_rules.proofs.RefusalLemmas.{first_refusal-append}
-use Rattle.css_rules.proofs.reader.read_rule.Goals as goal
+use Rattle.css_rules.proofs.reader.read_style.Goals as goal
 
 pub returns-clause-refusal : goal.returns-clause-refusal
 returns-clause-refusal c =
     let prelude = prelude_refusals c.args.prelude.now (head c.args.block.now).at in
     let block = block_refusals (inside c.args.block.now) in
     c.sooner_of-refusal.ensures
-    ∙ ap (λ r. sooner_of r c.in_ok-items.items.refusal)
+    ∙ ap (λ r. sooner_of r c.in_ok-declarations.declarations.refusal)
     (c.in_ok-selectors.ensures.refusal ∙ ap (λ at. first_refusal (prelude_refusals c.args.prelude.now at)) (ap (λ (token : Piece). token.at) (c.behind-block.view_is ∙ c.head_of.ensures)))
-    ∙ ap (sooner_of (first_refusal prelude)) (c.in_ok-items.ensures.refusal ∙ ap (λ items. first_refusal (block_refusals items)) c.inside.ensures)
+    ∙ ap (sooner_of (first_refusal prelude)) (c.in_ok-declarations.ensures.refusal ∙ ap (λ items. first_refusal (block_refusals items)) c.inside.ensures)
     ∙ sym (first_refusal-append prelude block)

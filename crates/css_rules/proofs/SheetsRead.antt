@@ -1,0 +1,140 @@
+-- Components have a sheet exactly where it is refused for nothing, part by part.
+use Rattle.std.proofs.Common.{◌≡◌, ◌≢◌, ℕ, List, [], ◌∷◌, ◌++◌, Bool, true, false, ◌||◌, Option, Some, None, refl, sym, ◌∙◌, ap, subst, cond, flat_map, option_map, length, ◌≤◌, arith}
+use Rattle.css_tokens.specs.declared.component.Component.{Component}
+use Rattle.css_rules.specs.declared.refusal.Refusal.{Refusal}
+use Rattle.css_rules.specs.declared.refusal.Sought.TheVariants.{ColonOrBracket, Ampersand}
+use Rattle.css_rules.specs.declared.selector.Selector.{Selector}
+use Rattle.css_rules.specs.declared.sheet.Declaration.{Declaration}
+use Rattle.css_rules.specs.declared.sheet.Item.{Item}
+use Rattle.css_rules.specs.declared.sheet.Sheet.{Sheet}
+use Rattle.css_rules.specs.Components.{head, inside}
+use Rattle.css_rules.specs.Cuts.{Cut, cuts, trimmed}
+use Rattle.css_rules.specs.Declarations.{declaration_of}
+use Rattle.css_rules.specs.Refusals.{first_refusal, unbuilt, has_sought, sought_for, sought_in, is_unbuilt_property}
+use Rattle.css_rules.specs.Selectors.{list_of, list_faults}
+use Rattle.css_rules.specs.Sheets.{begins_at_rule, ends_rule, ends_item, is_unbuilt, built, plain_item, is_rule, item_of, declarations_of, prelude_of, style_with, first_place, leftover, style_of, rule_of, rules_of, sheet_of, declaration_refusals, plain_refusals, mark_place, item_refusals, block_refusals, first_fault, prelude_refusals_by, prelude_refusals, leftover_refusals, style_refusals, rule_refusals, sheet_refusals}
+use Rattle.css_rules.proofs.ListsRead.{told-list}
+use Rattle.css_rules.proofs.ReadAllLemmas.{Told, left-none, right-none, told-all, told-mapped, told-read, told-refused}
+use Rattle.css_rules.proofs.SoughtTold.{none-sought, sought-none, sought-some}
+use Rattle.css_rules.proofs.RefusalLemmas.{first_refusal-none}
+use Rattle.std.specs.Option.{option_to_list}
+
+-- Declarations.
+
+-- the refusal of a property, and that of its value
+declared-told : (d : Declaration) (property value : Bool) (at : ℕ) (rest : List Refusal) → Told (cond value None (Some d)) rest
+    → Told (cond (property || value) None (Some (d ∷ []))) ((cond property (unbuilt at ∷ []) []) ++ rest)
+declared-told d true value at rest told = λ e. cc e
+declared-told d false true at rest told = told
+declared-told d false false at rest told = told
+
+sought-told : (d : Declaration) (b : Bool) → has_sought (sought_for d.name) d.value ≡ b → Told (cond b None (Some d)) (sought_in (sought_for d.name) d.value)
+sought-told d true e =
+    let found = sought-some (sought_for d.name) d.value e in
+    λ none. (let clash = sym found.2 ∙ none in cc clash)
+sought-told d false e = sought-none (sought_for d.name) d.value e
+
+built-told : (o : Option Declaration) (at : ℕ) → Told (built o) (declaration_refusals at o)
+built-told None at = λ e. cc e
+built-told (Some d) at =
+    declared-told d (is_unbuilt_property d.name) (has_sought (sought_for d.name) d.value) at (sought_in (sought_for d.name) d.value)
+    (sought-told d (has_sought (sought_for d.name) d.value) refl)
+
+plain-told : (cs : List Component) → Told (plain_item cs) (plain_refusals cs)
+plain-told [] = refl
+plain-told (c ∷ cs) = built-told (declaration_of (c ∷ cs)) (head c).at
+
+-- what waits for a later stage, or is told otherwise
+waits-told : {A : Type 0} (b : Bool) (at : ℕ) (o : Option A) (rs : List Refusal) → Told o rs → Told (cond b None o) (cond b (unbuilt at ∷ []) rs)
+waits-told true at o rs told = λ e. cc e
+waits-told false at o rs told = told
+
+item-told : (cut : Cut) → Told (item_of cut) (item_refusals cut)
+item-told cut =
+    waits-told (is_rule cut) (first_place (trimmed cut.front) (mark_place cut.mark)) (plain_item (trimmed cut.front)) (plain_refusals (trimmed cut.front)) (plain-told (trimmed cut.front))
+
+pub block-told : (block : List Component) → Told (declarations_of block) (block_refusals block)
+block-told block = told-all item_of item_refusals item-told (cuts ends_item block)
+
+-- Preludes.
+
+faults-told : (o : Option (List Selector)) (faults : List ℕ) → Told o faults → Told o (first_fault faults)
+faults-told None [] told = absurd (told refl)
+faults-told None (at ∷ faults) told = λ e. cc e
+faults-told (Some list) [] told = refl
+faults-told (Some list) (at ∷ faults) told = absurd (cc told)
+
+ampersand-told : (prelude : List Component) (end : ℕ) (b : Bool) → has_sought Ampersand prelude ≡ b
+    → Told (cond b None (list_of prelude)) (sought_in Ampersand prelude ++ first_fault (list_faults prelude end))
+ampersand-told prelude end true e =
+    let found = sought-some Ampersand prelude e in
+    λ none. (let clash = sym found.2 ∙ left-none (sought_in Ampersand prelude) (first_fault (list_faults prelude end)) none in cc clash)
+ampersand-told prelude end false e =
+    subst (λ (rs : List Refusal). Told (list_of prelude) (rs ++ first_fault (list_faults prelude end))) (sym (sought-none Ampersand prelude e))
+    (faults-told (list_of prelude) (list_faults prelude end) (told-list prelude end))
+
+colon-told : (prelude : List Component) (end : ℕ) (b : Bool) → has_sought ColonOrBracket prelude ≡ b
+    → Told (cond (b || has_sought Ampersand prelude) None (list_of prelude)) (prelude_refusals_by (sought_in ColonOrBracket prelude) prelude end)
+colon-told prelude end true e =
+    let found = sought-some ColonOrBracket prelude e in
+    λ none. (let clash = ap (λ (rs : List Refusal). prelude_refusals_by rs prelude end) (sym found.2) ∙ none in cc clash)
+colon-told prelude end false e =
+    subst (λ (rs : List Refusal). Told (cond (has_sought Ampersand prelude) None (list_of prelude)) (prelude_refusals_by rs prelude end)) (sym (sought-none ColonOrBracket prelude e))
+    (ampersand-told prelude end (has_sought Ampersand prelude) refl)
+
+pub prelude-told : (prelude : List Component) (end : ℕ) → Told (prelude_of prelude) (prelude_refusals prelude end)
+prelude-told prelude end = colon-told prelude end (has_sought ColonOrBracket prelude) refl
+
+-- Rules.
+
+leftover-told : (cs : List Component) → Told (leftover cs) (leftover_refusals cs)
+leftover-told [] = refl
+leftover-told (c ∷ cs) = λ e. cc e
+
+with-told : (at : ℕ) (o : Option (List Selector)) (p : Option (List Declaration)) (rs ss : List Refusal) → Told o rs → Told p ss → Told (style_with at o p) (rs ++ ss)
+with-told at None p rs ss h k = λ e. h (left-none rs ss e)
+with-told at (Some list) None rs ss h k = λ e. k (right-none rs ss e)
+with-told at (Some list) (Some ds) rs ss h k = ap (λ r. r ++ ss) h ∙ k
+
+style-told : (prelude : List Component) (mark : Option Component) → Told (style_of prelude mark) (style_refusals prelude mark)
+style-told prelude None = leftover-told (trimmed prelude)
+style-told prelude (Some block) =
+    with-told (first_place (trimmed prelude) (head block).at) (prelude_of prelude) (declarations_of (inside block)) (prelude_refusals prelude (head block).at) (block_refusals (inside block))
+    (prelude-told prelude (head block).at) (block-told (inside block))
+
+rule-told : (cut : Cut) → Told (rule_of cut) (rule_refusals cut)
+rule-told cut =
+    waits-told (begins_at_rule (trimmed cut.front)) (first_place (trimmed cut.front) 0) (style_of cut.front cut.mark) (style_refusals cut.front cut.mark) (style-told cut.front cut.mark)
+
+sheet-told : (cs : List Component) → Told (sheet_of cs) (sheet_refusals cs)
+sheet-told cs = told-mapped (λ items. record { items = items }) (rules_of cs) (sheet_refusals cs) (told-all rule_of rule_refusals rule-told (cuts ends_rule cs))
+
+pub sheet-read : (cs : List Component) (sheet : Sheet) → sheet_of cs ≡ Some sheet → sheet_refusals cs ≡ []
+sheet-read cs sheet e = told-read (sheet_of cs) sheet (sheet_refusals cs) (sheet-told cs) e
+
+pub sheet-refused : (cs : List Component) → sheet_of cs ≡ None → sheet_refusals cs ≢ []
+sheet-refused cs e = told-refused (sheet_of cs) (sheet_refusals cs) (sheet-told cs) e
+
+-- What the readers find.
+
+pub built-found : (o : Option Declaration) (at : ℕ) → first_refusal (declaration_refusals at o) ≡ None → built o ≡ Some (option_to_list o)
+built-found None at none = absurd (cc none)
+built-found (Some d) at none = at_unbuilt (is_unbuilt d) refl
+  where
+    told : built (Some d) ≡ None → declaration_refusals at (Some d) ≢ []
+    told = told-refused (built (Some d)) (declaration_refusals at (Some d)) (built-told (Some d) at)
+
+    at_unbuilt : (b : Bool) → is_unbuilt d ≡ b → built (Some d) ≡ Some (d ∷ [])
+    at_unbuilt true e = absurd (told (ap (λ b. cond b None (Some (d ∷ []))) e) (first_refusal-none (declaration_refusals at (Some d)) none))
+    at_unbuilt false e = ap (λ b. cond b None (Some (d ∷ []))) e
+
+pub plain-found : (cs : List Component) (o : Option Declaration) (at : ℕ) → 1 ≤ length cs → o ≡ declaration_of cs → first_refusal (declaration_refusals at o) ≡ None → plain_item cs ≡ Some (option_to_list o)
+plain-found [] o at some is none = absurd (omega (arith, some))
+plain-found (c ∷ cs) o at some is none = ap built (sym is) ∙ built-found o at none
+
+pub prelude-found : (prelude : List Component) (list : List Selector) → first_refusal (sought_in ColonOrBracket prelude) ≡ None → first_refusal (sought_in Ampersand prelude) ≡ None
+    → list_of prelude ≡ Some list → prelude_of prelude ≡ Some list
+prelude-found prelude list colon ampersand e =
+    ap (λ b. cond (b || has_sought Ampersand prelude) None (list_of prelude)) (none-sought ColonOrBracket prelude (first_refusal-none (sought_in ColonOrBracket prelude) colon))
+    ∙ ap (λ b. cond b None (list_of prelude)) (none-sought Ampersand prelude (first_refusal-none (sought_in Ampersand prelude) ampersand))
+    ∙ e
