@@ -14,6 +14,8 @@ pub mod selector;
 mod sheet;
 mod sheet_laws;
 mod standing_law;
+#[cfg(test)]
+mod testing;
 mod within_law;
 
 pub use first_law::{the_first_fault_is_named, the_first_refusal_is_named};

@@ -10,7 +10,8 @@ use Rattle.css_tokens.specs.Piece.{Piece, Word, word_of}
 use Rattle.css_tokens.specs.Tokens.{Reads, IsPlaced, StopsAt}
 use Rattle.css_tokens.specs.Trees.{pieces_all, all_formed}
 use Rattle.css_rules.specs.declared.refusal.Refusal.{Refusal}
-use Rattle.css_rules.specs.declared.refusal.Refusal.TheVariants as refusal
+use Rattle.css_rules.specs.declared.refusal.Cause.{Cause}
+use Rattle.css_rules.specs.declared.refusal.Cause.TheVariants as causes
 use Rattle.css_rules.specs.Refusals.{first_refusal, sooner_of, sooner}
 use Rattle.css_rules.specs.Sheets.{sheet_refusals}
 use Rattle.cascade_spec.specs.declared.finding.Code.{Code}
@@ -92,15 +93,15 @@ abbrev pub FirstOfEntry : Option (List ℕ) → Names → Status → Type 0
 FirstOfEntry entry files answer = MatchOption (if is_none entry then Some Words else None) (IsFirstOfSources (unwrap_or entry []) files answer) (λ kind. answer ≡ Usage kind)
 
 module _ (laws : AnswerLaws) where
-  refused_by : (bytes : List ℕ) (cs : List Component) → HasComponents bytes cs → (r : Refusal) → first_refusal (sheet_refusals cs) ≡ Some r → HasSomeFinding bytes
-  refused_by bytes cs has (refusal.Syntax at) named = (Syntax, at, inr (inr (cs, has, named)))
-  refused_by bytes cs has (refusal.Unbuilt at) named = (Unbuilt, at, inr (inr (cs, has, named)))
+  refused_by : (bytes : List ℕ) (cs : List Component) → HasComponents bytes cs → (cause : Cause) (at : ℕ) → first_refusal (sheet_refusals cs) ≡ Some (record { at = at; cause = cause }) → HasSomeFinding bytes
+  refused_by bytes cs has causes.Syntax at named = (Syntax, at, inr (inr (cs, has, named)))
+  refused_by bytes cs has causes.Unbuilt at named = (Unbuilt, at, inr (inr (cs, has, named)))
 
   of_components : (bytes : List ℕ) (cs : List Component) → HasComponents bytes cs → IsReadable bytes ⊎ HasSomeFinding bytes
   of_components bytes cs has =
       elim (some_refusal (sheet_refusals cs)) [
         | inl none ↦ inl (cs, has, none)
-        | inr some ↦ inr (refused_by bytes cs has some.0 some.1)
+        | inr some ↦ inr (refused_by bytes cs has some.0.cause some.0.at some.1)
       ]
 
   of_paired : (bytes : List ℕ) (ts : List Piece) → HasTokens bytes ts → IsPaired ts → IsReadable bytes ⊎ HasSomeFinding bytes

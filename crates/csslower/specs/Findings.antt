@@ -8,8 +8,7 @@ use Rattle.css_tokens.specs.Pairing.{IsPaired, IsBracketFault}
 use Rattle.css_tokens.specs.Piece.{Piece, word_of}
 use Rattle.css_tokens.specs.Tokens.{Reads, IsPlaced, StopsAt}
 use Rattle.css_tokens.specs.Trees.{pieces_all, all_formed}
-use Rattle.css_rules.specs.declared.refusal.Refusal.TheVariants as refusal
-use Rattle.css_rules.specs.Refusals.{first_refusal}
+use Rattle.css_rules.specs.Refusals.{first_refusal, syntax, unbuilt}
 use Rattle.css_rules.specs.Sheets.{sheet_refusals}
 use Rattle.cascade_spec.specs.declared.finding.Code.{Code}
 use Rattle.cascade_spec.specs.declared.finding.Code.TheVariants.{Syntax, Depth, Missing, Unbuilt}
@@ -46,8 +45,8 @@ HasBracketFault bytes code offset = (tokens : List Piece) × HasTokens bytes tok
 
 -- the sheet is refused there
 abbrev pub IsRefused : List Component → Code → ℕ → Type 0
-IsRefused components Syntax offset = first_refusal (sheet_refusals components) ≡ Some (refusal.Syntax offset)
-IsRefused components Unbuilt offset = first_refusal (sheet_refusals components) ≡ Some (refusal.Unbuilt offset)
+IsRefused components Syntax offset = first_refusal (sheet_refusals components) ≡ Some (syntax offset)
+IsRefused components Unbuilt offset = first_refusal (sheet_refusals components) ≡ Some (unbuilt offset)
 IsRefused components Depth offset = ⊥
 IsRefused components Missing offset = ⊥
 

@@ -1,4 +1,4 @@
-ghost use Rattle.std.specs.Prelude.{◌≡◌, ◌≤◌, [], length, IsTrue, IfOk, IfErr};
+ghost use Rattle.std.specs.Prelude.{◌≡◌, ◌≤◌, [], Some, length, IsTrue, IfOk, IfErr};
 ghost use Rattle.css_tokens.specs.Tokens.{is_plain};
 ghost use Rattle.css_rules.specs.Sheets.{sheet_of, sheet_refusals};
 ghost use Rattle.csslower.specs.Findings.{HasTokens, HasComponents};
@@ -64,7 +64,7 @@ pub(crate) fn text_sheet<'a>(
 ) -> Result<Sheet<'a>, TextFault>
     requires short { length text.now ≤ 4194304 }
     requires read { HasComponents text.now components.now }
-    ensures found { IfOk result (λ sheet. sheet ≡ sheet_of components.now) }
+    ensures found { IfOk result (λ sheet. sheet_of components.now ≡ Some sheet) }
     ensures faultless { IfOk result (λ _. sheet_refusals components.now ≡ []) }
     ensures refused { IfErr result (λ fault. IsReadingFault text.now fault) }
     ensures place { IfErr result (λ fault. IsWithin text.now fault) }

@@ -1,12 +1,13 @@
+use crate::testing::{large_list, repeated};
 use crate::{Declaration, Item, RuleFault, Sheet, read_sheet};
-use css_tokens::{components, is_plain_text, places_rise_in_a_text, tokens};
+use css_tokens::{Component, components, is_plain_text, places_rise_in_a_text, tokens};
 use std::alloc::Global;
 use std::test::Fail;
 
-/// The sheet of a short text whose brackets pair.
+/// The sheet of a text whose brackets pair.
 fn read(alloc: Global, text: &str) -> Result<Sheet<'_>, RuleFault> {
     let bytes = text.as_bytes();
-    if bytes.len() > 100 || !is_plain_text(bytes) {
+    if bytes.len() > 1_000_000 || !is_plain_text(bytes) {
         return Err(RuleFault::Memory);
     }
     let end = bytes.len() as u32;
@@ -100,4 +101,54 @@ fn names_the_least_place(rt: HostRuntime) {
     for (text, unbuilt, at) in cases {
         assert_eq!(rt; fault(rt.alloc(), text), Some((unbuilt, at)), "at {text}");
     }
+}
+
+/// A rule with a large list, 300 declarations, a value of 2,000 tokens and blocks that are nested 60 deep.
+fn large_rule(alloc: Global) -> Result<String, Fail> {
+    let mut text = large_list(alloc)?;
+    text.push_str("{")?;
+    text.push_str(&repeated(alloc, "color:red", ";", 300)?)?;
+    text.push_str(";a:")?;
+    text.push_str(&repeated(alloc, "0 ", "", 1000)?)?;
+    text.push_str(";b:")?;
+    text.push_str(&repeated(alloc, "(", "", 60)?)?;
+    text.push_str(&repeated(alloc, ")", "", 60)?)?;
+    text.push_str("}")?;
+    Ok(text)
+}
+
+/// How deep blocks are nested in the first component.
+fn depth(value: &[Component]) -> usize {
+    let mut deep = 0;
+    let mut inner = value;
+    for level in 1..100 {
+        let [Component::Block(block), ..] = inner else {
+            return deep;
+        };
+        deep = level;
+        inner = block.items.as_slice();
+    }
+    deep
+}
+
+#[test]
+fn reads_a_large_rule(rt: HostRuntime) -> Result<(), Fail> {
+    let text = large_rule(rt.alloc())?;
+    let sheet = read(rt.alloc(), &text)?;
+    assert_eq!(rt; sheet.items.len(), 1);
+    let [Item::Style(style)] = sheet.items.as_slice() else {
+        assert!(rt; false);
+        return Ok(());
+    };
+    assert_eq!(rt; style.selectors.len(), 40);
+    for selector in style.selectors.as_slice() {
+        assert_eq!(rt; selector.rest.len(), 29);
+    }
+    let run = first_run(&sheet);
+    assert_eq!(rt; run.len(), 302);
+    if let [.., long, nested] = run {
+        assert_eq!(rt; long.value.len(), 1999);
+        assert_eq!(rt; depth(nested.value.as_slice()), 60);
+    }
+    Ok(())
 }

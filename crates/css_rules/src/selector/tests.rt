@@ -1,13 +1,14 @@
 use crate::selector::{SelectorFault, read_list, write_list};
+use crate::testing::large_list;
 use css_tokens::{Block, Component, Kind, List, OutOfMemory, is_plain_text, tokens};
 use std::alloc::Global;
 use std::test::Fail;
 
 /// The components of the tokens of a text, one of each, where an opening one makes a block.
-fn components(alloc: Global, text: &'static str) -> Result<List<Component<'static>>, OutOfMemory> {
+fn components<'a>(alloc: Global, text: &'a str) -> Result<List<Component<'a>>, OutOfMemory> {
     let mut list = List::new(alloc);
     let bytes = text.as_bytes();
-    if bytes.len() > 100 || !is_plain_text(bytes) {
+    if bytes.len() > 1_000_000 || !is_plain_text(bytes) {
         return Ok(list);
     }
     if let Ok(read) = tokens(alloc, bytes) {
@@ -27,7 +28,7 @@ fn components(alloc: Global, text: &'static str) -> Result<List<Component<'stati
 }
 
 /// What a list is written as after it is read.
-fn rewritten(alloc: Global, text: &'static str) -> Result<List<u8>, SelectorFault> {
+fn rewritten(alloc: Global, text: &str) -> Result<List<u8>, SelectorFault> {
     let prelude = components(alloc, text)?;
     let list = read_list(alloc, prelude.as_slice(), 99)?;
     let mut out = List::new(alloc);
@@ -36,12 +37,21 @@ fn rewritten(alloc: Global, text: &'static str) -> Result<List<u8>, SelectorFaul
 }
 
 /// Where a list that ends at 99 is refused.
-fn refused(alloc: Global, text: &'static str) -> Result<Option<u32>, OutOfMemory> {
+fn refused(alloc: Global, text: &str) -> Result<Option<u32>, OutOfMemory> {
     let prelude = components(alloc, text)?;
     match read_list(alloc, prelude.as_slice(), 99) {
         Err(SelectorFault::Syntax(at)) => Ok(Some(at)),
         _ => Ok(None),
     }
+}
+
+#[test]
+fn a_large_list_is_written_as_it_was_read(rt: HostRuntime) -> Result<(), Fail> {
+    let text = large_list(rt.alloc())?;
+    let out = rewritten(rt.alloc(), &text)?;
+    assert!(rt; text.len() > 240_000);
+    assert!(rt; out.as_slice() == text.as_bytes());
+    Ok(())
 }
 
 #[test]
