@@ -35,4 +35,4 @@ pub use print::{plain_name, write_name};
 pub use reader::{TokenFault, is_plain_text, tokens};
 pub use text::Text;
 pub use token::Token;
-pub use value::{printed_again, write_value};
+pub use value::{is_gap, printed_again, write_value};

@@ -20,8 +20,8 @@ enum Pending {
     Space,
 }
 
-/// Whether a token of this kind is white space or a comment.
-fn is_gap(kind: Kind) -> bool
+/// Whether a token of this kind is white space or a comment (CSS Syntax 3, section 4).
+pub fn is_gap(kind: Kind) -> bool
     ensures { result ≡ is_gap kind }
 {
     matches!(kind, Kind::White | Kind::Comment)
