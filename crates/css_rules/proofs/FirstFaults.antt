@@ -11,10 +11,9 @@ use Rattle.css_tokens.specs.declared.component.Component.TheVariants.{outs-Singl
 use Rattle.css_tokens.specs.Piece.{Piece}
 use Rattle.css_tokens.specs.Pairing.{places_rise}
 use Rattle.css_tokens.specs.Trees.{pieces_of, pieces_all, closing, pieces_of-Single, pieces_of-Block}
-use Rattle.css_rules.specs.Components.{Layer, head, layer_head}
+use Rattle.css_rules.specs.Components.{Layer, head, layer_head, place_of, is_comma, is_gap}
 use Rattle.css_rules.specs.SelectorFaults.{first_of}
 use Rattle.css_rules.specs.Selectors.{Member, empty_before, with_component, cut_at_commas, selector_of, first_place, fault_of, list_faults}
-use Rattle.css_rules.specs.Signs.{place_of, open_place, is_comma, is_gap}
 use Rattle.css_rules.proofs.SelectorSpelling.{and-left, and-right}
 use Rattle.css_rules.proofs.ValueFacts.{shape_of}
 
@@ -66,10 +65,10 @@ module _ (end : ℕ) where
   part-first : (low : ℕ) (c : Component) (ps : List Piece) → TokensRise low (pieces_of c ++ ps) → (low ≤ place_of c) × TokensRise (place_of c) ps
   part-first low c ps h = elim (shape_of c) [
     | inl s ↦
-        let place : place_of c ≡ s.0.at = ap place_of s.1 ∙ ap open_place (outs-Single s.0) in
+        let place : place_of c ≡ s.0.at = ap place_of s.1 ∙ ap (λ (v : Layer). (layer_head v).at) (outs-Single s.0) in
         subst (λ at. (low ≤ at) × TokensRise at ps) (sym place) (subst (λ qs. TokensRise low (qs ++ ps)) (ap pieces_of s.1 ∙ pieces_of-Single s.0) h)
     | inr s ↦
-        let place : place_of c ≡ s.0.opening.at = ap place_of s.1 ∙ ap open_place (outs-Block s.0) in
+        let place : place_of c ≡ s.0.opening.at = ap place_of s.1 ∙ ap (λ (v : Layer). (layer_head v).at) (outs-Block s.0) in
         let inner = pieces_all s.0.items ++ closing s.0.opening s.0.close ∷ [] in
         let split : TokensRise low (s.0.opening ∷ inner ++ ps) = subst (λ qs. TokensRise low (qs ++ ps)) (ap pieces_of s.1 ∙ pieces_of-Block s.0) h in
         subst (λ at. (low ≤ at) × TokensRise at ps) (sym place) (split.0, tokens-behind s.0.opening.at inner ps split.1)
@@ -148,13 +147,9 @@ parts-before : (end low : ℕ) (cs : List Component) (block : Component) (behind
 parts-before end low [] block behind h = h.0
 parts-before end low (c ∷ cs) block behind h = (h.0, parts-before end (place_of c) cs block behind h.1)
 
-layer-place : (v : Layer) → open_place v ≡ (layer_head v).at
-layer-place (Single p) = refl
-layer-place (Block b) = refl
-
 pub first_fault-prelude : (front cs behind : List Component) (block : Component) (end at : ℕ) → IsTrue (places_rise (pieces_all (front ++ (cs ++ block ∷ behind))) end)
     → first_of (list_faults cs (head block).at) ≡ Some at → AllByRecursion (λ other. at ≤ other) (list_faults cs (head block).at)
 first_fault-prelude front cs behind block end at h e =
     let all = front ++ (cs ++ block ∷ behind) in
     let rise = parts-behind end 0 front (cs ++ block ∷ behind) (parts-rise end 0 all (tokens-rise end (pieces_all all) h)) in
-    subst (λ stop. Least stop cs) (layer-place (out-Component block)) (parts-least (place_of block) cs (parts-before end 0 cs block behind rise)) at e
+    parts-least (place_of block) cs (parts-before end 0 cs block behind rise) at e

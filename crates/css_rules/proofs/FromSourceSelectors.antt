@@ -24,11 +24,11 @@ use Rattle.css_rules.specs.declared.selector.Selector.{Selector}
 use Rattle.css_rules.specs.declared.selector.sign.Sign.{Sign}
 use Rattle.css_rules.specs.declared.selector.sign.Sign.TheVariants.{White, Child, Next, Later, Name, Star, Dot, Id, Parent, Other}
 use Rattle.css_rules.specs.BareSelectors.{bare_compound, bare_link, bare_selector, bare_list}
-use Rattle.css_rules.specs.Components.{Layer}
+use Rattle.css_rules.specs.Components.{Layer, place_of, is_comma}
 use Rattle.css_rules.specs.Printable.{is_parent, has_parent, is_nesting}
 use Rattle.css_rules.specs.Refusals.{is_ampersand, is_sought, unbuilt_at, sought_in}
 use Rattle.css_rules.specs.Selectors.{with_part, parts_of, compound_with, compound_of, stripped, white_before, sign_before, spaced, clean_signs, Runs, run_before, runs_of, with_link, links_of, selector_with, selector_at, first_place, selector_of, Member, empty_before, with_component, cut_at_commas, members_of}
-use Rattle.css_rules.specs.Signs.{kind_sign, open_sign, sign_of, place_of, is_comma}
+use Rattle.css_rules.specs.Signs.{kind_sign, open_sign, sign_of}
 use Rattle.css_rules.proofs.CutLemmas.{not-true}
 use Rattle.css_rules.proofs.SelectorPlaces.{single-piece}
 use Rattle.css_rules.proofs.SelectorSpelling.{and-left, and-right, and-both}

@@ -7,7 +7,8 @@ use Rattle.css_tokens.specs.declared.component.Block as block
 use Rattle.css_tokens.specs.declared.component.Component.TheVariants.{outs-Single, outs-Block}
 use Rattle.css_tokens.specs.Piece.{Piece, Word}
 use Rattle.css_tokens.specs.Trees.{is_text}
-use Rattle.css_rules.specs.Components.{layer_head, layer_is_single, layer_items, head, inside, is_gap, is_ident, is_at_keyword, is_colon, is_semicolon, is_bang, is_braces, is_gap_kind, is_ident_kind, is_at_kind, is_colon_kind, is_semicolon_kind, is_delim_kind}
+use Rattle.css_tokens.specs.Values.{is_gap as is_gap_kind}
+use Rattle.css_rules.specs.Components.{layer_head, layer_is_single, layer_items, head, inside, is_gap, is_ident, is_at_keyword, is_colon, is_semicolon, is_bang, is_braces, is_ident_kind, is_at_kind, is_colon_kind, is_semicolon_kind, is_delim_kind, is_comma, is_comma_kind}
 use Rattle.css_rules.specs.SelectorWords.{single_of}
 
 -- the piece of a word at the place 0
@@ -28,6 +29,9 @@ gap-Single p = ap (λ v. layer_is_single v && is_gap_kind (layer_head v).kind) (
 
 pub gap-Block : (b : block.Block) → is_gap (component.Block b) ≡ false
 gap-Block b = ap (λ v. layer_is_single v && is_gap_kind (layer_head v).kind) (outs-Block b)
+
+pub comma-Single : (p : Piece) → is_comma (component.Single p) ≡ is_comma_kind p.kind
+comma-Single p = ap (λ v. layer_is_single v && is_comma_kind (layer_head v).kind) (outs-Single p)
 
 pub ident-Single : (p : Piece) → is_ident (component.Single p) ≡ is_ident_kind p.kind
 ident-Single p = ap (λ v. layer_is_single v && is_ident_kind (layer_head v).kind) (outs-Single p)

@@ -2,12 +2,13 @@
 use Rattle.std.proofs.Common.{◌≡◌, List, [], ◌∷◌, map, Bool, Option, Some, None, option_map, unwrap_or, refl, sym, ◌∙◌, ap}
 use Rattle.std.proofs.lemmas.List.{map-append}
 use Rattle.css_tokens.specs.declared.component.Component.{Component}
+use Rattle.css_rules.specs.Components.{is_comma}
 use Rattle.css_rules.specs.declared.selector.sign.Sign.{Sign}
 use Rattle.css_rules.specs.BareSelectors.{BareSelector, bare_list, bare_selector}
 use Rattle.css_rules.specs.declared.selector.Selector.{Selector}
 use Rattle.css_rules.specs.ReadAll.{read_all}
 use Rattle.css_rules.specs.Selectors.{Member, cut_at_commas, first_place, list_of, member_of, members_of, selector_of}
-use Rattle.css_rules.specs.Signs.{sign_of, is_comma}
+use Rattle.css_rules.specs.Signs.{sign_of}
 use Rattle.css_rules.proofs.SelectorPlaces.{unplaced, reading_of, both_signs, cut_at, both-at, member_signs, reading-unplaced, selector_read}
 use Rattle.css_rules.proofs.ReadAllLemmas.{mapped-all}
 use Rattle.css_rules.specs.Erased.{erased}

@@ -20,8 +20,8 @@ use Rattle.css_rules.specs.declared.refusal.Sought.{Sought}
 use Rattle.css_rules.specs.declared.refusal.Sought.TheVariants.{ColonOrBracket, Ampersand}
 use Rattle.css_rules.proofs.SelectorSpelling.{words-again}
 use Rattle.css_rules.specs.BareSelectors.{BareCompound, BareSelector}
-use Rattle.css_rules.specs.Components.{is_at_keyword, is_at_kind, is_semicolon, is_semicolon_kind}
-use Rattle.css_rules.specs.Signs.{sign_of, open_sign, is_gap, open_gap, is_comma, open_comma, place_of}
+use Rattle.css_rules.specs.Components.{is_at_keyword, is_at_kind, is_semicolon, is_semicolon_kind, is_gap, is_comma, place_of}
+use Rattle.css_rules.specs.Signs.{sign_of, open_sign}
 use Rattle.css_rules.specs.Selectors.{list_of, list_faults, cut_at_commas, with_component, selector_of, selector_at, selector_of_runs, runs_of, empty_before, fault_of, first_place, stripped, spaced, white_before, Member}
 use Rattle.css_rules.specs.SelectorWords.{word, ident, hash, delim, space, comma, type_words, simple_words, compound_words, combinator_words, links_words, lead_words, selector_words, more_words, list_words, single_of, list_again}
 use Rattle.css_rules.specs.SelectorTexts.{compound_text, ends_in_dashes}
@@ -30,7 +30,7 @@ use Rattle.css_rules.specs.Sheets.{prelude_of}
 use Rattle.css_rules.specs.SheetAgain.{line_feed}
 use Rattle.css_rules.specs.Printable.{is_parent, has_parent, is_nesting}
 use Rattle.css_rules.proofs.DeclarationLemmas.{or_false_left, or_false_right}
-use Rattle.css_rules.proofs.Heads.{piece_of, at-Single, semicolon-Single}
+use Rattle.css_rules.proofs.Heads.{piece_of, at-Single, comma-Single, gap-Single, semicolon-Single}
 use Rattle.css_rules.proofs.SoughtAgain.{word_sought, sought-words}
 use Rattle.css_rules.proofs.ListsRead.{list-whole}
 
@@ -156,10 +156,10 @@ feed-sign : sign_of line_feed ≡ signs.White
 feed-sign = ap open_sign (outs-Single (piece_of (word kinds.White (10 ∷ []))))
 
 feed-gap : is_gap line_feed ≡ true
-feed-gap = ap open_gap (outs-Single (piece_of (word kinds.White (10 ∷ []))))
+feed-gap = gap-Single (piece_of (word kinds.White (10 ∷ [])))
 
 feed-comma : is_comma line_feed ≡ false
-feed-comma = ap open_comma (outs-Single (piece_of (word kinds.White (10 ∷ []))))
+feed-comma = comma-Single (piece_of (word kinds.White (10 ∷ [])))
 
 feed-place : (cs : List Component) → first_place (line_feed ∷ cs) ≡ first_place cs
 feed-place cs = ap (λ b. option_map place_of (cond (not b) (Some line_feed) (find (λ c. not (is_gap c)) cs))) feed-gap

@@ -7,6 +7,7 @@ use Rattle.std.proofs.lemmas.List.{map-append, append-nil}
 use Rattle.css_tokens.specs.declared.component.Component.{Component}
 use Rattle.css_tokens.specs.Piece.{Word}
 use Rattle.css_tokens.specs.Trees.{words_all}
+use Rattle.css_rules.specs.Components.{is_comma_kind}
 use Rattle.css_rules.specs.Private.SelectorSteps.{selectors_in}
 use Rattle.css_rules.specs.declared.selector.Combinator.{Combinator}
 use Rattle.css_rules.specs.declared.selector.Combinator.TheVariants as combinators
@@ -19,7 +20,6 @@ use Rattle.css_rules.specs.declared.selector.sign.Sign.{Sign}
 use Rattle.css_rules.specs.declared.selector.sign.Sign.TheVariants.{White, Child, Next, Later, Name, Star, Dot, Id, Parent, Other}
 use Rattle.css_tokens.specs.NameText.{name_text}
 use Rattle.css_tokens.specs.PlainNames.{is_plain_name}
-use Rattle.css_rules.specs.Signs.{is_comma_kind}
 use Rattle.css_rules.specs.Selectors.{parts_of, compound_with, compound_of, stripped, white_before, spaced, clean_signs, Runs, cut_by, run_before, runs_of, links_of, selector_of_runs, list_faults}
 use Rattle.css_rules.specs.BareSelectors.{BareCompound, BareSelector, bare_list}
 use Rattle.css_rules.specs.ReadableSelectors.{is_readable_type, is_readable_simple, has_type, has_simples, is_readable_compound, is_readable_selector, is_readable_list}

@@ -13,6 +13,7 @@ use Rattle.css_tokens.specs.declared.component.Component.TheOpen.{Component-F, S
 use Rattle.css_tokens.specs.declared.component.Component.TheFolds.{fold-Component, fold_out-Component}
 use Rattle.css_tokens.specs.Piece.{Piece, Word, word_of}
 use Rattle.css_tokens.specs.Trees.{opens, closes, closing, component_pieces, block_pieces, pieces_of, pieces_all, words_all, is_text}
+use Rattle.css_rules.specs.Components.{place_of, is_comma, is_comma_kind, layer_head, layer_is_single}
 use Rattle.css_rules.specs.Private.SelectorSteps.{selectors_in}
 use Rattle.css_rules.specs.declared.selector.Combinator.{Combinator}
 use Rattle.css_rules.specs.declared.selector.TypeName.{TypeName}
@@ -26,7 +27,7 @@ use Rattle.css_rules.specs.declared.selector.Selector.{Selector}
 use Rattle.css_rules.specs.declared.selector.sign.Sign.{Sign}
 use Rattle.css_rules.specs.declared.selector.sign.Sign.TheVariants.{Comment, White, Child, Next, Later, Name, Star, Dot, Id, Parent, Other}
 use Rattle.css_tokens.specs.PlainNames.{is_plain_name}
-use Rattle.css_rules.specs.Signs.{kind_sign, sign_of, place_of, is_comma, is_comma_kind, open_sign, open_comma}
+use Rattle.css_rules.specs.Signs.{kind_sign, sign_of, open_sign}
 use Rattle.css_rules.specs.Selectors.{with_part, parts_of, compound_with, compound_of, stripped, white_before, sign_before, spaced, clean_signs, Runs, run_before, runs_of, with_link, links_of, selector_with, selector_of_runs, selector_at, first_place, selector_of, Member, empty_before, with_component, cut_at_commas, members_of, fault_of, list_faults}
 use Rattle.css_rules.specs.BareSelectors.{BareCompound, BareSelector, bare_compound, bare_link, bare_selector, bare_list}
 
@@ -354,7 +355,7 @@ cut-words (c ∷ cs) h =
     let s = head-single c cs h in
     both-at c cs (is_comma c)
     ∙ ap (λ (parts : List Sign × List (List Sign)). cut_at (unplaced (sign_of c)) (is_comma c) parts) (cut-words cs (tail-plain c cs h))
-    ∙ ap (λ (v : Component-F Component block.Block). cut_at (unplaced (open_sign v)) (open_comma v) (word_cut (words_all cs))) s.1
+    ∙ ap (λ (v : Component-F Component block.Block). cut_at (unplaced (open_sign v)) (layer_is_single v && is_comma_kind (layer_head v).kind) (word_cut (words_all cs))) s.1
     ∙ ap (λ (w : Sign). cut_at w (is_comma_kind s.0.kind) (word_cut (words_all cs))) (sign-unplaced s.0.kind s.0.text s.0.at)
     ∙ ap (λ (ws : List Word). word_cut ws) (sym (words-single c cs s))
 

@@ -5,6 +5,7 @@ use Rattle.std.specs.Prelude.{Option, Some, None, is_some, unwrap_or, option_map
 use Rattle.std.specs.Option.{option_or}
 use Rattle.std.specs.List.{find, filter_map, cons_option}
 use Rattle.css_tokens.specs.declared.component.Component.{Component}
+use Rattle.css_rules.specs.Components.{place_of, is_gap, is_comma}
 use Rattle.css_rules.specs.declared.selector.Combinator.{Combinator}
 use Rattle.css_rules.specs.declared.selector.Combinator.TheVariants as combinators
 use Rattle.css_rules.specs.declared.selector.TypeName.TheVariants as types
@@ -22,7 +23,7 @@ use Rattle.css_rules.specs.declared.selector.read.Phase.{Phase}
 use Rattle.css_rules.specs.declared.selector.read.Phase.TheVariants.{Due, Inside, Dotted, Behind, Failed}
 use Rattle.css_rules.specs.declared.selector.read.Reading.{Reading}
 use Rattle.css_rules.specs.declared.selector.read.Pending.{Pending}
-use Rattle.css_rules.specs.Signs.{sign_of, place_of, is_gap, is_comma}
+use Rattle.css_rules.specs.Signs.{sign_of}
 use Rattle.css_rules.specs.Selectors.{with_part, parts_of, compound_with, compound_of, stripped, white_before, sign_before, spaced, Runs, runs_of, with_link, links_of, selector_with, first_place, selector_of, Member, empty_before, with_component, cut_at_commas, fault_of, list_faults}
 use Rattle.css_rules.specs.Private.SelectorSteps.{link, joined, chained, of_type, with_simple, reading, step, concluded, fresh, pending_step, pending_run, pending_selector, pending_fault, list_from, faults_from, selectors_in}
 

@@ -15,6 +15,7 @@ use Rattle.css_tokens.specs.declared.component.Component.TheVariants.{outs-Singl
 use Rattle.css_tokens.specs.NameText.{name_text}
 use Rattle.css_tokens.specs.Piece.{Piece, Word, word_of, spelled}
 use Rattle.css_tokens.specs.Trees.{opens, closes, pieces_all, words_all, pieces_of-Single, is_formed, all_formed, component_formed, block_formed}
+use Rattle.css_rules.specs.Components.{is_comma_kind}
 use Rattle.css_rules.specs.declared.selector.Combinator.{Combinator}
 use Rattle.css_rules.specs.declared.selector.Combinator.TheVariants as combinators
 use Rattle.css_rules.specs.declared.selector.TypeName.{TypeName}
@@ -22,7 +23,6 @@ use Rattle.css_rules.specs.declared.selector.TypeName.TheVariants as types
 use Rattle.css_rules.specs.declared.selector.Simple.{Simple}
 use Rattle.css_rules.specs.declared.selector.Simple.TheVariants as simples
 use Rattle.css_rules.specs.BareSelectors.{BareCompound, BareSelector}
-use Rattle.css_rules.specs.Signs.{is_comma_kind}
 use Rattle.css_rules.specs.SelectorTexts.{type_text, simple_text, compound_text, ends_in_dashes, combinator_text, links_text, lead_text, selector_text, more_text, list_text}
 use Rattle.css_rules.specs.SelectorWords.{comma, type_words, simple_words, compound_words, combinator_words, links_words, lead_words, selector_words, more_words, list_words, single_of, list_again}
 use Rattle.css_rules.proofs.SelectorPlaces.{is_plain}

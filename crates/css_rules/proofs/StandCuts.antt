@@ -11,8 +11,8 @@ use Rattle.css_tokens.specs.Again.{is_end_kind, is_stop}
 use Rattle.css_tokens.specs.Piece.{Piece, Word, word_of, spelled}
 use Rattle.css_tokens.specs.Tokens.{classes_of}
 use Rattle.css_tokens.specs.Trees.{is_text, words_all}
-use Rattle.css_tokens.specs.Values.{is_gap as is_gap_word}
-use Rattle.css_rules.specs.Components.{head, is_gap, is_gap_kind, is_braces, is_semicolon, is_semicolon_kind, is_delim_kind, is_bang, is_ident, is_keyword}
+use Rattle.css_tokens.specs.Values.{is_gap as is_gap_kind}
+use Rattle.css_rules.specs.Components.{head, is_gap, is_braces, is_semicolon, is_semicolon_kind, is_delim_kind, is_bang, is_ident, is_keyword}
 use Rattle.css_rules.specs.Cuts.{Cut, cuts_behind, with_front, trimmed, trimmed_start, trimmed_end}
 use Rattle.css_rules.specs.Declarations.{is_important}
 use Rattle.css_rules.specs.Sheets.{ends_in_braces}
@@ -47,11 +47,6 @@ gap-ends : (k : Kind) → is_gap_kind k ≡ true → is_end_kind k ≡ true
 gap-ends kinds.White e = refl
 gap-ends kinds.Comment e = refl
 gap-ends k e = absurd (false≢true e)
-
-gap-word : (k : Kind) → is_gap_kind k ≡ true → is_gap_word k ≡ true
-gap-word kinds.White e = refl
-gap-word kinds.Comment e = refl
-gap-word k e = absurd (false≢true e)
 
 semicolon-ends : (k : Kind) → is_semicolon_kind k ≡ true → is_end_kind k ≡ true
 semicolon-ends kinds.Semicolon e = refl
@@ -211,7 +206,7 @@ module _ (laws : ReadingLaws) where
       let here = subst (λ (d : Component). StandsAt (d ∷ xs) s) one.is stands in
       let first = first-stays (word_of p) (words_all xs) s (subst (λ (ws : List Word). AreRead ws s) (words-Single p xs) here.reads) in
       subst (λ (d : Component). IsStopAfterBang (d ∷ xs) s) (sym one.is)
-      (single-bang p xs s (laws.bang_gap (word_of p) (spelled (words_all xs) ++ s) first (gap-word p.kind one.kind)))
+      (single-bang p xs s (laws.bang_gap (word_of p) (spelled (words_all xs) ++ s) first one.kind))
 
   keyword-bang : (c : Component) (cs xs : List Component) (s : List ℕ) → is_important (c ∷ cs) ≡ true → IsStopAfterBang (c ∷ xs) s
   keyword-bang c (d ∷ cs) xs s is = absurd (false≢true is)

@@ -11,11 +11,12 @@ use Rattle.css_tokens.specs.declared.component.Component.TheOpen.{Single, Block}
 use Rattle.css_tokens.specs.declared.component.Component.TheVariants.{rolls-Single, rolls-Block}
 use Rattle.css_tokens.specs.Piece.{Piece}
 use Rattle.css_tokens.specs.Trees.{words_all, all_formed, is_formed, opens, is_formed-Block, is_text}
-use Rattle.css_tokens.specs.Values.{is_gap as is_gap_word, short_text, value_words, value_text}
+use Rattle.css_tokens.specs.Values.{is_gap as is_gap_kind, short_text, value_words, value_text}
 use Rattle.css_tokens.specs.ValueAgain.{is_solid, short_piece, again, all_again, value_again, head_kind-Single, head_kind-Block, again-Single, again-Block}
-use Rattle.css_rules.specs.Components.{Layer, is_gap, is_semicolon, is_bang, is_braces, is_gap_kind, is_semicolon_kind, is_delim_kind}
+use Rattle.css_tokens.specs.Values.{is_gap as is_gap_kind}
+use Rattle.css_rules.specs.Components.{Layer, is_gap, is_semicolon, is_bang, is_braces, is_semicolon_kind, is_delim_kind}
 use Rattle.css_rules.specs.Cuts.{trimmed, trimmed_end}
-use Rattle.css_rules.proofs.CutLemmas.{trimmed_start-other, trimmed_end-other}
+use Rattle.css_rules.proofs.CutLemmas.{not-true, trimmed_start-other, trimmed_end-other}
 use Rattle.css_rules.proofs.CutAgain.{last_of}
 use Rattle.css_rules.proofs.PlacesTrees.{OnePairing}
 use Rattle.css_rules.proofs.Heads.{gap-Single, gap-Block, semicolon-Single, semicolon-Block, bang-Single, bang-Block, braces-Single, braces-Block}
@@ -77,18 +78,18 @@ module _ (test : Component → Bool) (layer : IsLayerTest test) where
       ∙ any-again (filter is_solid v)
       ∙ any-filter v formed
 
-solid-Single : (p : Piece) → is_solid (component.Single p) ≡ not (is_gap_word p.kind)
-solid-Single p = ap (λ k. not (is_gap_word k)) (head_kind-Single p)
+solid-Single : (p : Piece) → is_solid (component.Single p) ≡ not (is_gap_kind p.kind)
+solid-Single p = ap (λ k. not (is_gap_kind k)) (head_kind-Single p)
 
 not_false : (b : Bool) → not b ≡ false → b ≡ true
 not_false true e = refl
 not_false false e = sym e
 
-gap_no_semicolon : (k : Kind) → is_gap_word k ≡ true → is_semicolon_kind k ≡ false
+gap_no_semicolon : (k : Kind) → is_gap_kind k ≡ true → is_semicolon_kind k ≡ false
 gap_no_semicolon kinds.Semicolon e = sym e
 gap_no_semicolon _ e = refl
 
-gap_no_delim : (k : Kind) (b : Bool) → is_gap_word k ≡ true → (is_delim_kind k && b) ≡ false
+gap_no_delim : (k : Kind) (b : Bool) → is_gap_kind k ≡ true → (is_delim_kind k && b) ≡ false
 gap_no_delim kinds.Delim b e = absurd (cc e)
 gap_no_delim _ b e = refl
 
@@ -99,7 +100,7 @@ delim_short _ text = refl
 pub semicolon_layer : IsLayerTest is_semicolon
 semicolon_layer = record {
   of_solid = λ c formed gap. elim (shape_of c) [
-    | inl s ↦ ap is_semicolon s.1 ∙ semicolon-Single s.0 ∙ gap_no_semicolon s.0.kind (not_false (is_gap_word s.0.kind) (sym (solid-Single s.0) ∙ sym (ap is_solid s.1) ∙ gap))
+    | inl s ↦ ap is_semicolon s.1 ∙ semicolon-Single s.0 ∙ gap_no_semicolon s.0.kind (not_false (is_gap_kind s.0.kind) (sym (solid-Single s.0) ∙ sym (ap is_solid s.1) ∙ gap))
     | inr b ↦ ap is_semicolon b.1 ∙ semicolon-Block b.0
   ];
   same = λ c. elim (shape_of c) [
@@ -111,7 +112,7 @@ semicolon_layer = record {
 pub bang_layer : IsLayerTest is_bang
 bang_layer = record {
   of_solid = λ c formed gap. elim (shape_of c) [
-    | inl s ↦ ap is_bang s.1 ∙ bang-Single s.0 ∙ gap_no_delim s.0.kind (is_text s.0.text (codes "!")) (not_false (is_gap_word s.0.kind) (sym (solid-Single s.0) ∙ sym (ap is_solid s.1) ∙ gap))
+    | inl s ↦ ap is_bang s.1 ∙ bang-Single s.0 ∙ gap_no_delim s.0.kind (is_text s.0.text (codes "!")) (not_false (is_gap_kind s.0.kind) (sym (solid-Single s.0) ∙ sym (ap is_solid s.1) ∙ gap))
     | inr b ↦ ap is_bang b.1 ∙ bang-Block b.0
   ];
   same = λ c. elim (shape_of c) [
@@ -120,7 +121,7 @@ bang_layer = record {
   ];
 }
 
-opens_no_gap : (k : Kind) → opens k ≡ true → is_gap_word k ≡ false
+opens_no_gap : (k : Kind) → opens k ≡ true → is_gap_kind k ≡ false
 opens_no_gap kinds.White e = sym e
 opens_no_gap kinds.Comment e = sym e
 opens_no_gap _ e = refl
@@ -131,7 +132,7 @@ braces_layer = record {
     | inl s ↦ ap is_braces s.1 ∙ braces-Single s.0
     | inr b ↦
         let opened = and_left (opens b.0.opening.kind) (all_formed b.0.items) (sym (is_formed-Block b.0) ∙ sym (ap is_formed b.1) ∙ formed) in
-        let solid = ap is_solid b.1 ∙ ap (λ k. not (is_gap_word k)) (head_kind-Block b.0) ∙ ap not (opens_no_gap b.0.opening.kind opened) in
+        let solid = ap is_solid b.1 ∙ ap (λ k. not (is_gap_kind k)) (head_kind-Block b.0) ∙ ap not (opens_no_gap b.0.opening.kind opened) in
         absurd (cc (solid, gap))
   ];
   same = λ c. elim (shape_of c) [
@@ -147,10 +148,8 @@ solid_no_gap c solid = elim (shape_of c) [
   | inr b ↦ ap is_gap b.1 ∙ gap-Block b.0
 ]
   where
-    kinds_agree : (k : Kind) → not (is_gap_word k) ≡ true → is_gap_kind k ≡ false
-    kinds_agree kinds.White e = sym e
-    kinds_agree kinds.Comment e = sym e
-    kinds_agree _ e = refl
+    kinds_agree : (k : Kind) → not (is_gap_kind k) ≡ true → is_gap_kind k ≡ false
+    kinds_agree k e = not-true (is_gap_kind k) e
 
 -- a printed value begins and ends with no gap
 pub trimmed-value : ValueLaws → (v : List Component) → trimmed (value_again v) ≡ value_again v
@@ -182,13 +181,11 @@ no_gap_solid c formed other = elim (shape_of c) [
   | inl s ↦ ap is_solid s.1 ∙ solid-Single s.0 ∙ kinds_agree s.0.kind (sym (gap-Single s.0) ∙ sym (ap is_gap s.1) ∙ other)
   | inr b ↦
       let opened = and_left (opens b.0.opening.kind) (all_formed b.0.items) (sym (is_formed-Block b.0) ∙ sym (ap is_formed b.1) ∙ formed) in
-      ap is_solid b.1 ∙ ap (λ k. not (is_gap_word k)) (head_kind-Block b.0) ∙ ap not (opens_no_gap b.0.opening.kind opened)
+      ap is_solid b.1 ∙ ap (λ k. not (is_gap_kind k)) (head_kind-Block b.0) ∙ ap not (opens_no_gap b.0.opening.kind opened)
 ]
   where
-    kinds_agree : (k : Kind) → is_gap_kind k ≡ false → not (is_gap_word k) ≡ true
-    kinds_agree kinds.White e = sym e
-    kinds_agree kinds.Comment e = sym e
-    kinds_agree _ e = refl
+    kinds_agree : (k : Kind) → is_gap_kind k ≡ false → not (is_gap_kind k) ≡ true
+    kinds_agree k e = ap not e
 
 -- a value that begins with no gap prints as something
 pub printed-some : ValueLaws → (c : Component) (cs : List Component) → all_formed (c ∷ cs) ≡ true → is_gap c ≡ false → (first : Component) × ((rest : List Component) × (value_again (c ∷ cs) ≡ first ∷ rest))

@@ -12,9 +12,8 @@ use Rattle.css_tokens.specs.declared.component.Component.TheOpen.{Single, Block}
 use Rattle.css_tokens.specs.declared.component.Component.TheVariants.{outs-Single}
 use Rattle.css_tokens.specs.Piece.{Piece}
 use Rattle.css_tokens.specs.Trees.{pieces_of, pieces_all, closing, pieces_of-Single, pieces_of-Block}
-use Rattle.css_rules.specs.Components.{Layer, head, inside, layer_head, layer_items}
+use Rattle.css_rules.specs.Components.{Layer, head, inside, layer_head, layer_items, place_of, is_comma, is_gap}
 use Rattle.css_rules.specs.Selectors.{Member, empty_before, with_component, cut_at_commas, members_of, selector_of, first_place, fault_of, list_faults}
-use Rattle.css_rules.specs.Signs.{place_of, open_place, is_comma, is_gap}
 use Rattle.css_rules.proofs.Heads.{head-Single, head-Block, inside-Block}
 use Rattle.css_rules.proofs.SelectorSpelling.{and-left, and-right, and-both}
 use Rattle.css_rules.proofs.ValueFacts.{shape_of}
@@ -64,12 +63,8 @@ module _ (end : ℕ) where
   pub head-within : (c : Component) → is_within c ≡ true → (head c).at ≤ end
   head-within c h = leb-true (head c).at end (head-early c h)
 
-  layer-place : (v : Layer) → open_place v ≡ (layer_head v).at
-  layer-place (Single p) = refl
-  layer-place (Block b) = refl
-
   place-within : (c : Component) → is_within c ≡ true → place_of c ≤ end
-  place-within c h = subst (λ n. n ≤ end) (sym (layer-place (out-Component c))) (head-within c h)
+  place-within c h = head-within c h
 
   items-early : (b : block.Block) → list_all is_early (behind b) ≡ true → list_all is_within b.items ≡ true
   items-early b h =

@@ -3,12 +3,13 @@ use Rattle.std.specs.Prelude.{ℕ, List, [], Bool, true, false, ◌&&◌, not, c
 use Rattle.std.specs.List.{starts_with}
 use Rattle.std.specs.Str.{str_to_ascii_lowercase}
 use Rattle.css_tokens.specs.declared.kind.Kind.{Kind}
-use Rattle.css_tokens.specs.declared.kind.Kind.TheVariants.{White, Comment, Ident, At, Colon, Semicolon, Delim}
+use Rattle.css_tokens.specs.declared.kind.Kind.TheVariants.{Ident, At, Colon, Semicolon, Comma, Delim}
 use Rattle.css_tokens.specs.declared.component.Component.{Component, out-Component}
 use Rattle.css_tokens.specs.declared.component.Component.TheOpen.{Component-F, Single, Block}
 use Rattle.css_tokens.specs.declared.component.Block as block
 use Rattle.css_tokens.specs.Piece.{Piece}
 use Rattle.css_tokens.specs.Trees.{is_text}
+use Rattle.css_tokens.specs.Values.{is_gap as is_gap_kind}
 
 -- a component, laid open: a token, or a block of components
 abbrev pub Layer : Type 0
@@ -41,11 +42,14 @@ layer_items (Block b) = b.items
 abbrev pub inside : Component → List Component
 inside c = layer_items (out-Component c)
 
--- white space or a comment?
-abbrev pub is_gap_kind : Kind → Bool
-is_gap_kind White = true
-is_gap_kind Comment = true
-is_gap_kind _ = false
+-- how many bytes of the source stand before a component
+abbrev pub place_of : Component → ℕ
+place_of c = (head c).at
+
+-- a comma?
+abbrev pub is_comma_kind : Kind → Bool
+is_comma_kind Comma = true
+is_comma_kind _ = false
 
 -- an identifier?
 abbrev pub is_ident_kind : Kind → Bool
@@ -75,6 +79,10 @@ is_delim_kind _ = false
 -- white space or a comment
 abbrev pub is_gap : Component → Bool
 is_gap c = is_single c && is_gap_kind (head c).kind
+
+-- a comma
+abbrev pub is_comma : Component → Bool
+is_comma c = is_single c && is_comma_kind (head c).kind
 
 -- an identifier
 abbrev pub is_ident : Component → Bool

@@ -2,6 +2,7 @@
 use Rattle.std.specs.Prelude.{ℕ, List, [], ◌∷◌, map, Option, Some, None, is_some, unwrap_or, option_map, not, if◌then◌else◌}
 use Rattle.std.specs.List.{find, filter_map}
 use Rattle.css_tokens.specs.declared.component.Component.{Component}
+use Rattle.css_rules.specs.Components.{place_of, is_comma, is_gap}
 use Rattle.css_rules.specs.declared.selector.Combinator.{Combinator}
 use Rattle.css_rules.specs.declared.selector.Combinator.TheVariants as combinators
 use Rattle.css_rules.specs.declared.selector.TypeName.{TypeName}
@@ -15,7 +16,7 @@ use Rattle.css_rules.specs.declared.selector.Selector.{Selector}
 use Rattle.css_rules.specs.declared.selector.sign.Sign.{Sign}
 use Rattle.css_rules.specs.declared.selector.sign.Sign.TheVariants.{Comment, White, Child, Next, Later, Name, Star, Dot, Id, Parent}
 use Rattle.css_rules.specs.ReadAll.{read_all}
-use Rattle.css_rules.specs.Signs.{sign_of, place_of, is_comma, is_gap}
+use Rattle.css_rules.specs.Signs.{sign_of}
 
 -- Compounds. Their signs hold no comment, white space or combinator.
 

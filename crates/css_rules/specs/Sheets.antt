@@ -11,7 +11,7 @@ use Rattle.css_rules.specs.declared.sheet.Item.{Item, Style, Plain}
 use Rattle.css_rules.specs.declared.sheet.Sheet.{Sheet}
 use Rattle.css_rules.specs.declared.reader.RuleFault.{RuleFault}
 use Rattle.css_rules.specs.declared.reader.RuleFault.TheVariants as faults
-use Rattle.css_rules.specs.Components.{head, inside, is_at_keyword, is_semicolon, is_braces}
+use Rattle.css_rules.specs.Components.{place_of, inside, is_at_keyword, is_semicolon, is_braces}
 use Rattle.css_rules.specs.Cuts.{Cut, cuts, trimmed, trimmed_start}
 use Rattle.css_rules.specs.Declarations.{declaration_of, begins_custom}
 use Rattle.css_rules.specs.ReadAll.{read_all}
@@ -86,7 +86,7 @@ style_with at (Some selectors) (Some declarations) = Some (Style (record { selec
 -- the place of the first of these components, or the other place where there are none
 abbrev pub first_place : List Component → ℕ → ℕ
 first_place [] otherwise = otherwise
-first_place (c ∷ cs) otherwise = (head c).at
+first_place (c ∷ cs) otherwise = place_of c
 
 -- What no block follows is no rule, but for nothing at all.
 abbrev pub leftover : List Component → Option (List Item)
@@ -96,7 +96,7 @@ leftover (c ∷ cs) = None
 -- A style rule is a prelude and a `{}` block.
 abbrev pub style_of : List Component → Option Component → Option (List Item)
 style_of prelude None = leftover (trimmed prelude)
-style_of prelude (Some block) = style_with (first_place (trimmed prelude) (head block).at) (prelude_of prelude) (declarations_of (inside block))
+style_of prelude (Some block) = style_with (first_place (trimmed prelude) (place_of block)) (prelude_of prelude) (declarations_of (inside block))
 
 -- A rule. An at-rule has no reading yet.
 abbrev pub rule_of : Cut → Option (List Item)
@@ -120,12 +120,12 @@ declaration_refusals at (Some d) = (if is_unbuilt_property d.name then unbuilt a
 -- what an item that is no rule is refused for
 abbrev pub plain_refusals : List Component → List Refusal
 plain_refusals [] = []
-plain_refusals (c ∷ cs) = declaration_refusals (head c).at (declaration_of (c ∷ cs))
+plain_refusals (c ∷ cs) = declaration_refusals (place_of c) (declaration_of (c ∷ cs))
 
 -- the place of the mark, or 0 where the list ends
 abbrev pub mark_place : Option Component → ℕ
 mark_place None = 0
-mark_place (Some mark) = (head mark).at
+mark_place (Some mark) = place_of mark
 
 -- What an item of a style rule's block is refused for. A rule in it waits for a later stage, at its first component.
 abbrev pub item_refusals : Cut → List Refusal
@@ -152,12 +152,12 @@ prelude_refusals prelude end = prelude_refusals_by (sought_in ColonOrBracket pre
 -- what stands behind the last `{}` block is refused for: it is no rule, unless it is white space and comments alone
 abbrev pub leftover_refusals : List Component → List Refusal
 leftover_refusals [] = []
-leftover_refusals (c ∷ cs) = syntax (head c).at ∷ []
+leftover_refusals (c ∷ cs) = syntax (place_of c) ∷ []
 
 -- what a rule that is no at-rule is refused for: its prelude and its block, or that no block follows
 abbrev pub style_refusals : List Component → Option Component → List Refusal
 style_refusals prelude None = leftover_refusals (trimmed prelude)
-style_refusals prelude (Some block) = prelude_refusals prelude (head block).at ++ block_refusals (inside block)
+style_refusals prelude (Some block) = prelude_refusals prelude (place_of block) ++ block_refusals (inside block)
 
 -- What a rule is refused for. An at-rule waits for a later stage at its at-keyword, and nothing in it is looked at.
 abbrev pub rule_refusals : Cut → List Refusal

@@ -1,5 +1,5 @@
 -- What component values are to the grammar of selectors (Selectors 4, section 18, Grammar).
-use Rattle.std.specs.Prelude.{ℕ, List, Bool, true, false, codes, drop, if◌then◌else◌}
+use Rattle.std.specs.Prelude.{ℕ, List, codes, drop, if◌then◌else◌}
 use Rattle.css_tokens.specs.declared.kind.Kind.{Kind}
 use Rattle.css_tokens.specs.declared.kind.Kind.TheVariants as kinds
 use Rattle.css_tokens.specs.declared.component.Component.{Component, out-Component}
@@ -52,17 +52,6 @@ kind_sign kinds.Cdc text at = Other
 abbrev pub token_sign : Piece → Sign
 token_sign token = kind_sign token.kind token.text token.at
 
--- a comma?
-abbrev pub is_comma_kind : Kind → Bool
-is_comma_kind kinds.Comma = true
-is_comma_kind _ = false
-
--- white space or a comment?
-abbrev pub is_gap_kind : Kind → Bool
-is_gap_kind kinds.White = true
-is_gap_kind kinds.Comment = true
-is_gap_kind _ = false
-
 -- the sign of a token or a block
 abbrev pub open_sign : Component-F Component block.Block → Sign
 open_sign (Single token) = token_sign token
@@ -71,30 +60,3 @@ open_sign (Block inner) = Other
 -- The sign of a component. A block is no part of a selector that is read today.
 abbrev pub sign_of : Component → Sign
 sign_of c = open_sign (out-Component c)
-
--- the place of a token, or of the token that opens a block
-abbrev pub open_place : Component-F Component block.Block → ℕ
-open_place (Single token) = token.at
-open_place (Block inner) = inner.opening.at
-
--- the place of its first token
-abbrev pub place_of : Component → ℕ
-place_of c = open_place (out-Component c)
-
--- is it a comma, and no block?
-abbrev pub open_comma : Component-F Component block.Block → Bool
-open_comma (Single token) = is_comma_kind token.kind
-open_comma (Block inner) = false
-
--- a comma
-abbrev pub is_comma : Component → Bool
-is_comma c = open_comma (out-Component c)
-
--- is it white space or a comment, and no block?
-abbrev pub open_gap : Component-F Component block.Block → Bool
-open_gap (Single token) = is_gap_kind token.kind
-open_gap (Block inner) = false
-
--- white space or a comment
-abbrev pub is_gap : Component → Bool
-is_gap c = open_gap (out-Component c)

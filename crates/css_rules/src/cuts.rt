@@ -8,7 +8,7 @@ ghost use Rattle.css_rules.specs.Private.Marks.{EndsAt, IsFirstMark, is_mark};
 ghost use Rattle.css_rules.specs.Sheets.{ends_item, ends_rule};
 
 use crate::declaration::begins_custom;
-use crate::parts::{begins_at_rule, head_of, is_braces, is_space, is_token};
+use crate::parts::{begins_at_rule, head_of, is_braces, is_gap, is_token};
 use css_tokens::{Component, Kind};
 
 /// What a list is cut at.
@@ -86,7 +86,7 @@ pub fn trimmed_start<'s, 'a>(components: &'s [Component<'a>]) -> &'s [Component<
     ensures { result.now ≡ trimmed_start components.now }
 {
     let mut from = 0;
-    while from < components.len() && is_space(&components[from]) {
+    while from < components.len() && is_gap(&components[from]) {
         from += 1;
     }
     &components[from..]
@@ -96,7 +96,7 @@ fn trimmed_end<'s, 'a>(components: &'s [Component<'a>]) -> &'s [Component<'a>]
     ensures { result.now ≡ trimmed_end components.now }
 {
     let mut to = components.len();
-    while to > 0 && is_space(&components[to - 1]) {
+    while to > 0 && is_gap(&components[to - 1]) {
         to -= 1;
     }
     &components[..to]

@@ -3,10 +3,10 @@
 ghost use Rattle.std.specs.Prelude.{◌≡◌};
 ghost use Rattle.std.specs.List.{list_any};
 ghost use Rattle.std.specs.Str.{str_to_ascii_lowercase};
-ghost use Rattle.css_rules.specs.Components.{head, is_at_keyword, is_gap, is_single, is_gap_kind, is_keyword, is_braces};
+ghost use Rattle.css_rules.specs.Components.{head, is_at_keyword, is_braces, is_comma, is_gap, is_keyword, is_single, place_of};
 ghost use Rattle.css_rules.specs.Sheets.{begins_at_rule};
 
-use css_tokens::{Component, Kind, Token};
+use css_tokens::{Component, Kind, Token, is_gap as is_gap_kind};
 
 /// The first token of a component.
 pub fn head_of<'s, 'a>(component: &'s Component<'a>) -> &'s Token<'a>
@@ -28,11 +28,25 @@ pub fn is_token(component: &Component) -> bool
     }
 }
 
+/// How many bytes of the source stand before a component.
+pub fn place_of(component: &Component) -> u32
+    ensures { result ≡ place_of component.now }
+{
+    head_of(component).at
+}
+
 /// Whether it is white space or a comment.
-pub fn is_space(component: &Component) -> bool
+pub fn is_gap(component: &Component) -> bool
     ensures { result ≡ is_gap component.now }
 {
-    is_token(component) && matches!(head_of(component).kind, Kind::White | Kind::Comment)
+    is_token(component) && is_gap_kind(head_of(component).kind)
+}
+
+/// Whether it is a comma.
+pub fn is_comma(component: &Component) -> bool
+    ensures { result ≡ is_comma component.now }
+{
+    is_token(component) && matches!(head_of(component).kind, Kind::Comma)
 }
 
 /// Whether a text is a keyword, which is given in lower case, in any case of letters.

@@ -10,7 +10,7 @@ ghost use Rattle.css_rules.specs.Private.Faults.{fault_of};
 use crate::cuts::{end_of_cut, item_mark, mark_at, rule_mark, trimmed};
 use crate::declaration::{is_custom, read_declaration};
 use crate::first_law::the_first_refusal_is_named;
-use crate::parts::{begins_at_rule, head_of, is_braces};
+use crate::parts::{begins_at_rule, is_braces, place_of};
 use crate::refusal::{Cause, Refusal, Sought, sooner_of, sought_in};
 use crate::selector::{Selector, SelectorFault, read_list};
 use crate::sheet::{Declaration, Item, Sheet, Style};
@@ -119,7 +119,7 @@ fn read_plain<'a>(
         });
     };
     let value = read_declaration(alloc, item)?;
-    let refusal = declaration_refusal(head_of(first).at, &value);
+    let refusal = declaration_refusal(place_of(first), &value);
     Ok(Judged { value, refusal })
 }
 
@@ -128,7 +128,7 @@ fn mark_place(mark: Option<&Component>) -> u32
     ensures { result ≡ mark_place (option_copied mark.entry) }
 {
     match mark {
-        Some(mark) => head_of(mark).at,
+        Some(mark) => place_of(mark),
         None => 0,
     }
 }
@@ -259,7 +259,7 @@ fn first_place(components: &[Component], otherwise: u32) -> u32
     ensures { result ≡ first_place components.now otherwise }
 {
     match components {
-        [first, ..] => head_of(first).at,
+        [first, ..] => place_of(first),
         [] => otherwise,
     }
 }
@@ -273,7 +273,7 @@ fn read_style<'a>(
     ensures refusal { IfOk result (λ read. read.refusal ≡ first_refusal (style_refusals prelude.now (Some block.now))) }
     ensures value { IfOk result (λ read. read.refusal ≡ None → style_of prelude.now (Some block.now) ≡ Some (option_to_list read.value)) }
 {
-    let opening = head_of(block).at;
+    let opening = place_of(block);
     let selectors = read_prelude(alloc, prelude, opening)?;
     let declarations = read_block(alloc, inside(block))?;
     let refusal = sooner_of(selectors.refusal, declarations.refusal);
@@ -315,7 +315,7 @@ fn read_rule<'a>(
         (_, Some(block)) => read_style(alloc, front, block),
         ([first, ..], None) => Ok(Judged {
             value: None,
-            refusal: Some(Refusal::syntax(head_of(first).at)),
+            refusal: Some(Refusal::syntax(place_of(first))),
         }),
         ([], None) => Ok(Judged {
             value: None,

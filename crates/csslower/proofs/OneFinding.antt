@@ -9,7 +9,8 @@ use Rattle.css_tokens.specs.Pairing.{IsPaired, IsBracketFault}
 use Rattle.css_tokens.specs.Piece.{Piece, Word, word_of}
 use Rattle.css_tokens.specs.Tokens.{Reads, IsPlaced, StopsAt}
 use Rattle.css_tokens.specs.Trees.{pieces_all, all_formed}
-use Rattle.css_rules.specs.Refusals.{first_refusal}
+use Rattle.css_rules.specs.declared.refusal.Refusal.{Refusal}
+use Rattle.css_rules.specs.Refusals.{first_refusal, syntax, unbuilt}
 use Rattle.css_rules.specs.Sheets.{sheet_refusals}
 use Rattle.cascade_spec.specs.declared.finding.Code.{Code}
 use Rattle.cascade_spec.specs.declared.finding.Code.TheVariants.{Syntax, Depth, Missing, Unbuilt}
@@ -45,11 +46,17 @@ placed_one n (x ∷ xs) (y ∷ ys) p q e =
 abbrev IsSame : Code → Code → ℕ → ℕ → Type 0
 IsSame c d o p = (c ≡ d) × (o ≡ p)
 
+same_place : (r s : Refusal) → Some r ≡ Some s → r.at ≡ s.at
+same_place r s e = let same : r ≡ s = cc e in ap (λ (t : Refusal). t.at) same
+
+same_cause : (r s : Refusal) → Some r ≡ Some s → r.cause ≡ s.cause
+same_cause r s e = let same : r ≡ s = cc e in ap (λ (t : Refusal). t.cause) same
+
 refused_one : (cs : List Component) (c d : Code) (o p : ℕ) → IsRefused cs c o → IsRefused cs d p → IsSame c d o p
-refused_one cs Syntax Syntax o p a b = (refl, (let e = sym a ∙ b in cc e))
-refused_one cs Unbuilt Unbuilt o p a b = (refl, (let e = sym a ∙ b in cc e))
-refused_one cs Syntax Unbuilt o p a b = absurd (let e = sym a ∙ b in cc e)
-refused_one cs Unbuilt Syntax o p a b = absurd (let e = sym a ∙ b in cc e)
+refused_one cs Syntax Syntax o p a b = (refl, same_place (syntax o) (syntax p) (sym a ∙ b))
+refused_one cs Unbuilt Unbuilt o p a b = (refl, same_place (unbuilt o) (unbuilt p) (sym a ∙ b))
+refused_one cs Syntax Unbuilt o p a b = absurd (let e = same_cause (syntax o) (unbuilt p) (sym a ∙ b) in cc e)
+refused_one cs Unbuilt Syntax o p a b = absurd (let e = same_cause (unbuilt o) (syntax p) (sym a ∙ b) in cc e)
 refused_one cs Syntax Depth o p a b = absurd b
 refused_one cs Syntax Missing o p a b = absurd b
 refused_one cs Unbuilt Depth o p a b = absurd b

@@ -3,6 +3,7 @@ use Rattle.std.specs.Prelude.{ℕ, List, [], ◌∷◌, ◌++◌, Option, Some, 
 use Rattle.std.specs.Option.{option_or}
 use Rattle.std.specs.List.{cons_option, filter_map}
 use Rattle.css_tokens.specs.declared.component.Component.{Component}
+use Rattle.css_rules.specs.Components.{place_of, is_gap}
 use Rattle.css_rules.specs.declared.selector.Combinator.{Combinator}
 use Rattle.css_rules.specs.declared.selector.Combinator.TheVariants as combinators
 use Rattle.css_rules.specs.declared.selector.TypeName.{TypeName}
@@ -20,7 +21,7 @@ use Rattle.css_rules.specs.declared.selector.read.Phase.{Phase}
 use Rattle.css_rules.specs.declared.selector.read.Phase.TheVariants.{Due, Inside, Dotted, Behind, Failed}
 use Rattle.css_rules.specs.declared.selector.read.Reading.{Reading}
 use Rattle.css_rules.specs.declared.selector.read.Pending.{Pending}
-use Rattle.css_rules.specs.Signs.{sign_of, place_of, is_gap}
+use Rattle.css_rules.specs.Signs.{sign_of}
 use Rattle.css_rules.specs.Selectors.{cut_at_commas, members_of, selector_of, fault_of}
 
 -- a combinator with the compound behind it

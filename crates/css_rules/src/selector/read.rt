@@ -5,7 +5,8 @@ ghost use Rattle.css_rules.specs.SelectorFaults.{FaultIs, IsFirstFault};
 ghost use Rattle.css_rules.specs.declared.selector.read.SelectorFault.TheVariants.{Memory, Syntax};
 ghost use Rattle.std.specs.Prelude.{◌≡◌, [], ◌∷◌, IfOk, IfErr, OnOk, Some, None};
 
-use crate::selector::sign::{Sign, is_comma, is_gap, place_of, sign_of};
+use crate::parts::{is_comma, is_gap, place_of};
+use crate::selector::sign::{Sign, sign_of};
 use crate::selector::{Combinator, Compound, Link, Part, Selector, Simple, TypeName};
 use css_tokens::{Component, List, OutOfMemory, Text};
 use std::alloc::Global;

@@ -1,4 +1,4 @@
-ghost use Rattle.css_rules.specs.Signs.{delim_of, id_of, is_comma, is_comma_kind, is_gap, is_gap_kind, place_of, sign_of, token_sign};
+ghost use Rattle.css_rules.specs.Signs.{delim_of, id_of, sign_of, token_sign};
 ghost use Rattle.std.specs.Prelude.{◌≡◌};
 
 use css_tokens::{Component, Kind, Text, Token, is_plain_name};
@@ -80,46 +80,4 @@ pub fn sign_of<'a>(component: &Component<'a>) -> Sign<'a>
         Component::Single(token) => token_sign(token),
         Component::Block(_) => Sign::Other,
     }
-}
-
-/// How many bytes of the source stand before a component value.
-pub fn place_of(component: &Component) -> u32
-    ensures { result ≡ place_of component.now }
-{
-    match component {
-        Component::Single(token) => token.at,
-        Component::Block(block) => block.opening.at,
-    }
-}
-
-/// Whether a component value is a comma.
-pub fn is_comma(component: &Component) -> bool
-    ensures { result ≡ is_comma component.now }
-{
-    match component {
-        Component::Single(token) => is_comma_token(token),
-        Component::Block(_) => false,
-    }
-}
-
-/// Whether a component value is white space or a comment.
-pub fn is_gap(component: &Component) -> bool
-    ensures { result ≡ is_gap component.now }
-{
-    match component {
-        Component::Single(token) => is_gap_token(token),
-        Component::Block(_) => false,
-    }
-}
-
-fn is_comma_token(token: &Token) -> bool
-    ensures { result ≡ is_comma_kind token.now.kind }
-{
-    matches!(token.kind, Kind::Comma)
-}
-
-fn is_gap_token(token: &Token) -> bool
-    ensures { result ≡ is_gap_kind token.now.kind }
-{
-    matches!(token.kind, Kind::White | Kind::Comment)
 }

@@ -1,5 +1,4 @@
 use Rattle.std.proofs.Common.{◌∙◌, sym, ap}
-use Rattle.css_tokens.specs.Piece.{Piece}
 use Rattle.css_rules.specs.Components.{head, inside}
 use Rattle.css_rules.specs.Refusals.{sooner_of, first_refusal}
 use Rattle.css_rules.specs.Sheets.{prelude_refusals, block_refusals}
@@ -12,6 +11,6 @@ returns-clause-refusal c =
     let block = block_refusals (inside c.args.block.now) in
     c.sooner_of-refusal.ensures
     ∙ ap (λ r. sooner_of r c.in_ok-declarations.declarations.refusal)
-    (c.in_ok-selectors.ensures.refusal ∙ ap (λ at. first_refusal (prelude_refusals c.args.prelude.now at)) (ap (λ (token : Piece). token.at) (c.behind-block.view_is ∙ c.head_of.ensures)))
+    (c.in_ok-selectors.ensures.refusal ∙ ap (λ at. first_refusal (prelude_refusals c.args.prelude.now at)) c.place_of-opening.ensures)
     ∙ ap (sooner_of (first_refusal prelude)) (c.in_ok-declarations.ensures.refusal ∙ ap (λ items. first_refusal (block_refusals items)) c.inside.ensures)
     ∙ sym (first_refusal-append prelude block)
