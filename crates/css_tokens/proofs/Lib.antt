@@ -8,6 +8,7 @@ pub mod OneBracketFault
 pub mod OneReading
 pub mod Reading
 pub mod Runs
+mod Scans
 pub mod Spelling
 pub mod Stays
 pub mod AgainLemmas

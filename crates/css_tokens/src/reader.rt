@@ -1,5 +1,5 @@
 ghost use Rattle.std.specs.Prelude.{◌≡◌, ◌+◌, ◌-◌, ◌^◌, ◌<◌, ◌≤◌, [], IsTrue, IfOk, IfErr, IfSome, IfNone, MatchOption, map, length};
-ghost use Rattle.std.specs.List.{position};
+ghost use Rattle.std.specs.List.{position, list_any};
 ghost use Rattle.std.specs.Option.{option_map};
 ghost use Rattle.css_tokens.specs.Characters.{class_of};
 ghost use Rattle.css_tokens.specs.Kinds.{kind_of};
@@ -85,11 +85,26 @@ pub fn is_plain_text(text: &[u8]) -> bool
 }
 
 /// The place of the first byte that no text may hold.
+#[tactic(auto, using(crate::proofs::Scans::none_found))]
 fn control_place(text: &[u8]) -> Option<usize>
     ensures value { result ≡ position is_control text.now }
     ensures within { IfSome result (λ at. at < length text.now) }
 {
+    if !has_control(text) {
+        return None;
+    }
     text.iter().position(|byte| is_control_character(*byte))
+}
+
+/// Whether any byte is one that no text may hold. No byte ends the loop early, so that many are tested at once.
+fn has_control(text: &[u8]) -> bool
+    ensures { result ≡ list_any is_control text.now }
+{
+    let mut found = false;
+    for byte in text {
+        found |= is_control_character(*byte);
+    }
+    found
 }
 
 /// Whether the byte is one that no text may hold.
