@@ -1,5 +1,5 @@
 -- A text is read again as the words that it was made of.
-use Rattle.std.proofs.Common.{◌≡◌, ℕ, ◌+◌, ◌≤◌, List, [], ◌∷◌, ◌++◌, map, length, drop, Bool, true, false, not, ◌&&◌, ◌||◌, ◌⊎◌, ltb, refl, sym, inl, inr, ap, ap₂, ◌∙◌, subst, Some, arith, codes, ltb-false, eq-eqb}
+use Rattle.std.proofs.Common.{◌≡◌, ℕ, ◌+◌, ◌≤◌, List, [], ◌∷◌, ◌++◌, map, length, drop, Bool, true, false, not, ◌&&◌, ◌||◌, ◌⊎◌, ltb, refl, sym, inl, inr, ap, ap₂, ◌∙◌, subst, Some, is_some, arith, codes, ltb-false, eq-eqb}
 use Rattle.std.proofs.lemmas.Bool.{cases_Bool, and_parts, and_from, both_ways, not-false}
 use Rattle.std.proofs.lemmas.List.{map-append}
 use Rattle.std.specs.Char.{to_ascii_lowercase}
@@ -22,8 +22,8 @@ use Rattle.css_tokens.proofs.Derivatives.{is_class-eq}
 use Rattle.css_tokens.proofs.Fronts.{longest_in, longest_in-nil, longest_in-step, longest_in-dead}
 use Rattle.css_tokens.proofs.Firsts.{is_ruled, ByTable, AsUrl, by_table, as_url, first_cases}
 use Rattle.css_tokens.proofs.Kept.{is_calm, kept, calm_same}
-use Rattle.css_tokens.proofs.MachineRows.{each_class}
-use Rattle.css_tokens.proofs.Runs.{run, one_more, reach, reached, longest-ended, found_later}
+use Rattle.css_tokens.proofs.MachineStates.{implied, each_state, each_step}
+use Rattle.css_tokens.proofs.Runs.{run, one_more, reach, reached, longest-ended, ended_aside, found_later}
 use Rattle.css_tokens.proofs.Spelling.{classes_length}
 
 -- a front and what follows it, by classes
@@ -130,14 +130,11 @@ at_white state.UrlStart = true
 at_white state.UrlWhite = true
 at_white s = false
 
+abbrev goes_white : State → Class → Bool
+goes_white s x = at_white s && has white x
+
 white_stays : (s : State) (x : Class) → at_white s ≡ true → has white x ≡ true → at_white (next s x) ≡ true
-white_stays state.UrlStart class.Blank e h = refl
-white_stays state.UrlStart class.Newline e h = refl
-white_stays state.UrlStart x e h = cc
-white_stays state.UrlWhite class.Blank e h = refl
-white_stays state.UrlWhite class.Newline e h = refl
-white_stays state.UrlWhite x e h = cc
-white_stays s x e h = cc
+white_stays s x e h = implied (goes_white s x) (at_white (next s x)) (and_from (at_white s) (has white x) e h) (each_step (λ r c. not (goes_white r c) || at_white (next r c)) refl s x)
 
 white_open : (s : State) (after : List Class) (k : Kind) → at_white s ≡ true → ended s after ≡ Some k → ⊥
 white_open state.UrlStart after k e h = cc
@@ -153,26 +150,19 @@ quote_inside s (x ∷ i) a b k e h =
     ]
 
 url_step : (s : State) (x : Class) → in_url_state s ≡ true → in_url_state (next s x) ≡ true
-url_step state.UrlStart x h = each_class (λ c. in_url_state (next state.UrlStart c)) refl x
-url_step state.UrlWhite x h = each_class (λ c. in_url_state (next state.UrlWhite c)) refl x
-url_step state.UrlText x h = each_class (λ c. in_url_state (next state.UrlText c)) refl x
-url_step state.UrlAfter x h = each_class (λ c. in_url_state (next state.UrlAfter c)) refl x
-url_step (state.End k) x h = refl
-url_step state.Dead x h = refl
-url_step s x h = cc
+url_step s x h = implied (in_url_state s) (in_url_state (next s x)) h (each_step (λ r c. not (in_url_state r) || in_url_state (next r c)) refl s x)
 
 url_run : (s : State) (t : List Class) → in_url_state s ≡ true → in_url_state (run s t) ≡ true
 url_run s [] h = h
 url_run s (x ∷ t) h = url_run (next s x) t (url_step s x h)
 
+abbrev calm_end : State → Bool
+calm_end s = not (is_some (ended s [])) || is_calm s
+
 url_calm : (s : State) (after : List Class) (k : Kind) → in_url_state s ≡ true → ended s after ≡ Some k → is_calm s ≡ true
-url_calm state.UrlStart after k e h = cc
-url_calm state.UrlWhite after k e h = cc
-url_calm state.UrlText after k e h = cc
-url_calm state.UrlAfter after k e h = cc
-url_calm (state.End j) after k e h = refl
-url_calm state.Dead after k e h = refl
-url_calm s after k e h = cc
+url_calm s after k e h =
+    implied (is_some (ended s [])) (is_calm s) (ap is_some (ended_aside s after k h))
+    (implied (in_url_state s) (calm_end s) e (each_state (λ r. not (in_url_state r) || calm_end r) refl s))
 
 quote_kept : (a b : List ℕ) → KeepsQuote a b → not (quote_follows (classes_of a)) ≡ false → not (quote_follows (classes_of b)) ≡ false
 quote_kept a b q h = ap not (q (not-false (quote_follows (classes_of a)) h))

@@ -22,18 +22,9 @@ use Rattle.css_tokens.specs.Again.{StaysFirst, stops, is_stop, is_end_kind, begi
 use Rattle.css_tokens.specs.Values.{is_white, is_gap}
 use Rattle.css_tokens.proofs.Firsts.{ByTable, AsUrl, first_cases}
 use Rattle.css_tokens.proofs.GapLemmas.{kind_cases}
-use Rattle.css_tokens.proofs.MachineRows.{each_class}
-use Rattle.css_tokens.proofs.Runs.{run, longest-ended, same_inside}
+use Rattle.css_tokens.proofs.MachineStates.{implied, refuted, each_class, each_state, each_step}
+use Rattle.css_tokens.proofs.Runs.{run, longest-ended, ended_aside, same_inside}
 use Rattle.css_tokens.proofs.Again.{comes_to, head_tail, lowered_class, url_classes}
-
-taken : (a b : Bool) → a ≡ true → (not a || b) ≡ true → b ≡ true
-taken true b h k = k
-taken false b h k = cc
-
-refuted : (a b : Bool) → b ≡ false → (not a || b) ≡ true → a ≡ false
-refuted true true h k = cc
-refuted true false h k = cc
-refuted false b h k = refl
 
 -- the states from which a token that may stand behind a value is still read
 abbrev may_end : State → Bool
@@ -49,9 +40,7 @@ abbrev comes_from_end : State → Class → Bool
 comes_from_end s c = not (may_end (next s c)) || may_end s
 
 end_table : (s : State) (x : Class) → comes_from_end s x ≡ true
-end_table (state.End k) x = refl
-end_table state.Dead x = refl
-end_table s x = each_class (comes_from_end s) refl x
+end_table s x = each_step comes_from_end refl s x
 
 end_never : (s : State) (t : List Class) → may_end s ≡ false → may_end (run s t) ≡ false
 end_never s [] h = h
@@ -61,17 +50,13 @@ abbrev is_other : Option Kind → Bool
 is_other None = true
 is_other (Some k) = not (is_end_kind k)
 
-end_other : (s : State) (after : List Class) → may_end s ≡ false → is_other (ended s after) ≡ true
-end_other state.Start after h = cc
-end_other state.White after h = cc
-end_other state.Slash after h = cc
-end_other state.Comment after h = cc
-end_other state.CommentStar after h = cc
-end_other (state.End k) after h = ap not h
-end_other s after h = refl
+end_other : (s : State) (after : List Class) (k : Kind) → may_end s ≡ false → ended s after ≡ Some k → is_end_kind k ≡ false
+end_other s after k h e =
+    let f = sym (ap is_other (ended_aside s after k e)) ∙ implied (not (may_end s)) (is_other (ended s [])) (ap not h) (each_state (λ r. not (not (may_end r)) || is_other (ended r [])) refl s) in
+    not-true (is_end_kind k) f
 
 not_end : (s : State) (t after : List Class) (k : Kind) → may_end s ≡ false → ended (run s t) after ≡ Some k → is_end_kind k ≡ false
-not_end s t after k h e = not-true (is_end_kind k) (ap is_other (sym e) ∙ end_other (run s t) after (end_never s t h))
+not_end s t after k h e = end_other (run s t) after k (end_never s t h) e
 
 -- a stop, and no quote
 abbrev pub is_end_class : Class → Bool
@@ -84,7 +69,7 @@ end_first : (c after : List Class) (k : Kind) → ended (run state.Start c) afte
 end_first [] after k e h = cc
 end_first (x ∷ t) after k e h =
     elim (cases_Bool (may_end (next state.Start x))) [
-      | inl m ↦ (x, t, refl, taken (may_end (next state.Start x)) (is_end_class x) m (each_class begins_end refl x))
+      | inl m ↦ (x, t, refl, implied (may_end (next state.Start x)) (is_end_class x) m (each_class begins_end refl x))
       | inr m ↦ absurd (both_ways (is_end_kind k) (not_end (next state.Start x) t after k m e) h)
     ]
 
@@ -128,24 +113,20 @@ abbrev comes_from_white : State → Class → Bool
 comes_from_white s c = not (may_be_white (next s c)) || (has white c && may_be_white s)
 
 white_table : (s : State) (x : Class) → comes_from_white s x ≡ true
-white_table (state.End k) x = refl
-white_table state.Dead x = refl
-white_table s x = each_class (comes_from_white s) refl x
+white_table s x = each_step comes_from_white refl s x
+
+abbrev has_white : Option Kind → Bool
+has_white None = false
+has_white (Some k) = is_white k
 
 white_ended : (s : State) (after : List Class) → ended s after ≡ Some kind.White → may_be_white s ≡ true
-white_ended state.White after h = refl
-white_ended (state.End k) after h = ap is_white (same_inside k kind.White h)
-white_ended state.Slash after h = absurd (slash_other after h)
-  where
-    slash_other : (after : List Class) → ended state.Slash after ≡ Some kind.White → ⊥
-    slash_other after h = elim (cases_Bool (not (begins (class.Star ∷ []) after))) [ inl e ↦ let f : Some kind.Delim ≡ Some kind.White = rw e at h in cc | inr e ↦ let f : None ≡ Some kind.White = rw e at h in cc ]
-white_ended s after h = cc
+white_ended s after h = implied (has_white (ended s [])) (may_be_white s) (ap has_white (ended_aside s after kind.White h)) (each_state (λ r. not (has_white (ended r [])) || may_be_white r) refl s)
 
 white_run : (s : State) (c after : List Class) → ended (run s c) after ≡ Some kind.White → (may_be_white s ≡ true) × (list_all (has white) c ≡ true)
 white_run s [] after h = (white_ended s after h, refl)
 white_run s (x ∷ c) after h =
     let r = white_run (next s x) c after h in
-    let p = and_parts (has white x) (may_be_white s) (taken (may_be_white (next s x)) _ r.0 (white_table s x)) in
+    let p = and_parts (has white x) (may_be_white s) (implied (may_be_white (next s x)) _ r.0 (white_table s x)) in
     (p.1, ap (λ b. b && list_all (has white) c) p.0 ∙ r.1)
 
 white_all : (w : Word) (a : List ℕ) → StaysFirst w a → w.kind ≡ kind.White → list_all (has white) (classes_of w.text) ≡ true
@@ -158,9 +139,7 @@ only_white state.Dead = true
 only_white s = false
 
 only_white_step : (s : State) (x : Class) → only_white s ≡ true → only_white (next s x) ≡ true
-only_white_step state.White x h = each_class (λ c. only_white (next state.White c)) refl x
-only_white_step state.Dead x h = refl
-only_white_step s x h = cc
+only_white_step s x h = implied (only_white s) (only_white (next s x)) h (each_step (λ r c. not (only_white r) || only_white (next r c)) refl s x)
 
 only_white_run : (s : State) (t : List Class) → only_white s ≡ true → only_white (run s t) ≡ true
 only_white_run s [] h = h
@@ -172,9 +151,7 @@ only_white_ended state.Dead after k h e = cc
 only_white_ended s after k h e = cc
 
 white_next : (x : Class) → has white x ≡ true → only_white (next state.Start x) ≡ true
-white_next class.Blank h = refl
-white_next class.Newline h = refl
-white_next x h = cc
+white_next x h = implied (has white x) (only_white (next state.Start x)) h (each_class (λ c. not (has white c) || only_white (next state.Start c)) refl x)
 
 dark_first : (c after : List Class) (k : Kind) → ended (run state.Start c) after ≡ Some k → is_white k ≡ false → (x : Class) × (t : List Class) × (c ≡ x ∷ t) × (has white x ≡ false)
 dark_first [] after k e h = cc
@@ -197,9 +174,10 @@ dark_begins w a f h =
     ]
 
 none_white : (x : Class) (t : List Class) → has white x ≡ false → not (begins white (x ∷ t)) ≡ true
-none_white class.Blank t h = cc
-none_white class.Newline t h = cc
-none_white x t h = refl
+none_white x t h = refuted_white (each_class (λ c. has white c || not (begins white (c ∷ t))) refl x)
+  where
+    refuted_white : (has white x || not (begins white (x ∷ t))) ≡ true → not (begins white (x ∷ t)) ≡ true
+    refuted_white k = sym (ap (λ b. b || not (begins white (x ∷ t))) h) ∙ k
 
 pub dark_none : (w : Word) (a : List ℕ) → StaysFirst w a → is_white w.kind ≡ false → begins_none white (w.text ++ a) ≡ true
 dark_none w a f h =

@@ -10,7 +10,8 @@ use Rattle.css_tokens.specs.Patterns.{Pattern, Never, Empty, One, Many, Either, 
 use Rattle.css_tokens.specs.Kinds.{Row, begins, kind_of}
 use Rattle.css_tokens.specs.Private.Machine.{is_set, is_pattern, holds, is_never, is_blank, either, followed, derive, derived}
 
-at_place : (c : Class) → get_or classes (place_of c) class.Control ≡ c
+-- each class stands in its place
+pub at_place : (c : Class) → get_or classes (place_of c) class.Blank ≡ c
 at_place class.Blank = refl
 at_place class.Newline = refl
 at_place class.DoubleQuote = refl
@@ -43,7 +44,7 @@ at_place class.Control = refl
 
 -- classes, sets and patterns that pass the test of their names are the same
 pub is_class-eq : (a b : Class) → is_class a b ≡ true → a ≡ b
-is_class-eq a b h = sym (at_place a) ∙ ap (λ n. get_or classes n class.Control) (eqb-true (place_of a) (place_of b) h) ∙ at_place b
+is_class-eq a b h = sym (at_place a) ∙ ap (λ n. get_or classes n class.Blank) (eqb-true (place_of a) (place_of b) h) ∙ at_place b
 
 pub is_set-eq : (a b : List Class) → is_set a b ≡ true → a ≡ b
 is_set-eq [] [] h = refl

@@ -1,5 +1,5 @@
 -- The first token of a text stays first where what follows it changes behind a stop.
-use Rattle.std.proofs.Common.{◌≡◌, List, [], ◌∷◌, ◌++◌, Bool, true, false, not, ◌&&◌, ◌||◌, ◌⊎◌, refl, sym, inl, inr, ap, ap₂, ◌∙◌, subst, Option, Some, None, if◌then◌else◌}
+use Rattle.std.proofs.Common.{◌≡◌, List, [], ◌∷◌, ◌++◌, Bool, true, false, not, ◌&&◌, ◌||◌, ◌⊎◌, refl, sym, inl, inr, ap, ap₂, ◌∙◌, Option, Some, None, if◌then◌else◌}
 use Rattle.std.proofs.lemmas.Bool.{cases_Bool, and_parts, or_cases, not-true}
 use Rattle.std.specs.Option.{option_map}
 use Rattle.css_tokens.specs.declared.class.Class.{Class}
@@ -14,9 +14,9 @@ use Rattle.css_tokens.specs.Private.Machine.{next, ended}
 use Rattle.css_tokens.specs.Tokens.{as_front}
 use Rattle.css_tokens.specs.Again.{stops, is_stop, is_solid}
 use Rattle.css_tokens.proofs.Derivatives.{is_class-eq}
-use Rattle.css_tokens.proofs.MachineRows.{each_class}
+use Rattle.css_tokens.proofs.MachineStates.{implied, is_dead, is_dead-eq, each_state, each_step}
 use Rattle.css_tokens.proofs.Fronts.{longest_in, longest_in-nil, longest_in-step, longest_in-dead}
-use Rattle.css_tokens.proofs.Runs.{one_more, longest-ended, same_inside}
+use Rattle.css_tokens.proofs.Runs.{one_more, longest-ended, ended_aside, same_inside}
 
 -- a state in which no white space, comment or string, and no inside of a Url, is open
 abbrev pub is_calm : State → Bool
@@ -33,115 +33,33 @@ is_calm state.UrlText = false
 is_calm state.UrlAfter = false
 is_calm s = true
 
-abbrev is_dead : State → Bool
-is_dead state.Dead = true
-is_dead s = false
-
-is_dead-eq : (s : State) → is_dead s ≡ true → s ≡ state.Dead
-is_dead-eq state.Dead h = refl
-is_dead-eq s h = cc
-
 calm_step : (s : State) (x : Class) → is_calm s ≡ true → is_calm (next s x) ≡ true
-calm_step state.Less x h = each_class (λ c. is_calm (next state.Less c)) refl x
-calm_step state.LessBang x h = each_class (λ c. is_calm (next state.LessBang c)) refl x
-calm_step state.LessBangMinus x h = each_class (λ c. is_calm (next state.LessBangMinus c)) refl x
-calm_step state.Minus x h = each_class (λ c. is_calm (next state.Minus c)) refl x
-calm_step state.MinusMinus x h = each_class (λ c. is_calm (next state.MinusMinus c)) refl x
-calm_step state.Name x h = each_class (λ c. is_calm (next state.Name c)) refl x
-calm_step state.At x h = each_class (λ c. is_calm (next state.At c)) refl x
-calm_step state.AtMinus x h = each_class (λ c. is_calm (next state.AtMinus c)) refl x
-calm_step state.AtName x h = each_class (λ c. is_calm (next state.AtName c)) refl x
-calm_step state.Hash x h = each_class (λ c. is_calm (next state.Hash c)) refl x
-calm_step state.HashName x h = each_class (λ c. is_calm (next state.HashName c)) refl x
-calm_step state.Plus x h = each_class (λ c. is_calm (next state.Plus c)) refl x
-calm_step state.Dot x h = each_class (λ c. is_calm (next state.Dot c)) refl x
-calm_step state.Point x h = each_class (λ c. is_calm (next state.Point c)) refl x
-calm_step state.Integer x h = each_class (λ c. is_calm (next state.Integer c)) refl x
-calm_step state.Fraction x h = each_class (λ c. is_calm (next state.Fraction c)) refl x
-calm_step state.Exponent x h = each_class (λ c. is_calm (next state.Exponent c)) refl x
-calm_step state.ExponentPlus x h = each_class (λ c. is_calm (next state.ExponentPlus c)) refl x
-calm_step state.ExponentMinus x h = each_class (λ c. is_calm (next state.ExponentMinus c)) refl x
-calm_step state.ExponentDigits x h = each_class (λ c. is_calm (next state.ExponentDigits c)) refl x
-calm_step state.ExponentDash x h = each_class (λ c. is_calm (next state.ExponentDash c)) refl x
-calm_step state.PlusDigits x h = each_class (λ c. is_calm (next state.PlusDigits c)) refl x
-calm_step state.UnitMinus x h = each_class (λ c. is_calm (next state.UnitMinus c)) refl x
-calm_step state.Unit x h = each_class (λ c. is_calm (next state.Unit c)) refl x
-calm_step (state.End k) x h = refl
-calm_step state.Dead x h = refl
-calm_step s x h = cc
+calm_step s x h = implied (is_calm s) (is_calm (next s x)) h (each_step (λ r c. not (is_calm r) || is_calm (next r c)) refl s x)
 
-abbrev stop_ends : State → Class → Bool
-stop_ends s c = not (has stops c) || is_dead (next s c)
-
-any_or : (b : Bool) → (b || true) ≡ true
-any_or true = refl
-any_or false = refl
-
-taken : (a b : Bool) → a ≡ true → (not a || b) ≡ true → b ≡ true
-taken true b h k = k
-taken false b h k = cc
-
-stop_table : (s : State) (x : Class) → is_calm s ≡ true → stop_ends s x ≡ true
-stop_table state.Less x h = each_class (stop_ends state.Less) refl x
-stop_table state.LessBang x h = each_class (stop_ends state.LessBang) refl x
-stop_table state.LessBangMinus x h = each_class (stop_ends state.LessBangMinus) refl x
-stop_table state.Minus x h = each_class (stop_ends state.Minus) refl x
-stop_table state.MinusMinus x h = each_class (stop_ends state.MinusMinus) refl x
-stop_table state.Name x h = each_class (stop_ends state.Name) refl x
-stop_table state.At x h = each_class (stop_ends state.At) refl x
-stop_table state.AtMinus x h = each_class (stop_ends state.AtMinus) refl x
-stop_table state.AtName x h = each_class (stop_ends state.AtName) refl x
-stop_table state.Hash x h = each_class (stop_ends state.Hash) refl x
-stop_table state.HashName x h = each_class (stop_ends state.HashName) refl x
-stop_table state.Plus x h = each_class (stop_ends state.Plus) refl x
-stop_table state.Dot x h = each_class (stop_ends state.Dot) refl x
-stop_table state.Point x h = each_class (stop_ends state.Point) refl x
-stop_table state.Integer x h = each_class (stop_ends state.Integer) refl x
-stop_table state.Fraction x h = each_class (stop_ends state.Fraction) refl x
-stop_table state.Exponent x h = each_class (stop_ends state.Exponent) refl x
-stop_table state.ExponentPlus x h = each_class (stop_ends state.ExponentPlus) refl x
-stop_table state.ExponentMinus x h = each_class (stop_ends state.ExponentMinus) refl x
-stop_table state.ExponentDigits x h = each_class (stop_ends state.ExponentDigits) refl x
-stop_table state.ExponentDash x h = each_class (stop_ends state.ExponentDash) refl x
-stop_table state.PlusDigits x h = each_class (stop_ends state.PlusDigits) refl x
-stop_table state.UnitMinus x h = each_class (stop_ends state.UnitMinus) refl x
-stop_table state.Unit x h = each_class (stop_ends state.Unit) refl x
-stop_table (state.End k) x h = any_or (not (has stops x))
-stop_table state.Dead x h = any_or (not (has stops x))
-stop_table s x h = cc
+abbrev is_stopped : State → Class → Bool
+is_stopped s x = is_calm s && has stops x
 
 stop_dead : (s : State) (x : Class) → is_calm s ≡ true → has stops x ≡ true → next s x ≡ state.Dead
-stop_dead s x h k = is_dead-eq (next s x) (taken (has stops x) (is_dead (next s x)) k (stop_table s x h))
+stop_dead s x h k = is_dead-eq (next s x) (implied (is_stopped s x) (is_dead (next s x)) (ap₂ ◌&&◌ h k) (each_step (λ r c. not (is_stopped r c) || is_dead (next r c)) refl s x))
 
 -- a `!` begins nothing but the rest of `<!--`
+abbrev is_bang : State → Bool
+is_bang state.LessBang = true
+is_bang s = false
+
+is_bang-eq : (s : State) → is_bang s ≡ true → s ≡ state.LessBang
+is_bang-eq state.LessBang h = refl
+is_bang-eq s h = cc
+
+abbrev after_bang : State → Bool
+after_bang s = is_dead (next s class.Bang) || is_bang (next s class.Bang)
+
 bang_next : (s : State) → is_calm s ≡ true → (next s class.Bang ≡ state.Dead) ⊎ (next s class.Bang ≡ state.LessBang)
-bang_next state.Less h = inr refl
-bang_next state.LessBang h = inl refl
-bang_next state.LessBangMinus h = inl refl
-bang_next state.Minus h = inl refl
-bang_next state.MinusMinus h = inl refl
-bang_next state.Name h = inl refl
-bang_next state.At h = inl refl
-bang_next state.AtMinus h = inl refl
-bang_next state.AtName h = inl refl
-bang_next state.Hash h = inl refl
-bang_next state.HashName h = inl refl
-bang_next state.Plus h = inl refl
-bang_next state.Dot h = inl refl
-bang_next state.Point h = inl refl
-bang_next state.Integer h = inl refl
-bang_next state.Fraction h = inl refl
-bang_next state.Exponent h = inl refl
-bang_next state.ExponentPlus h = inl refl
-bang_next state.ExponentMinus h = inl refl
-bang_next state.ExponentDigits h = inl refl
-bang_next state.ExponentDash h = inl refl
-bang_next state.PlusDigits h = inl refl
-bang_next state.UnitMinus h = inl refl
-bang_next state.Unit h = inl refl
-bang_next (state.End k) h = inl refl
-bang_next state.Dead h = inl refl
-bang_next s h = cc
+bang_next s h =
+    elim (or_cases (is_dead (next s class.Bang)) (is_bang (next s class.Bang)) (implied (is_calm s) (after_bang s) h (each_state (λ r. not (is_calm r) || after_bang r) refl s))) [
+      | inl e ↦ inl (is_dead-eq (next s class.Bang) e)
+      | inr e ↦ inr (is_bang-eq (next s class.Bang) e)
+    ]
 
 bang_dead : (x : Class) → is_class class.Minus x ≡ false → next state.LessBang x ≡ state.Dead
 bang_dead class.Minus h = cc
@@ -224,19 +142,25 @@ slash_same : (c a b : List Class) (k : Kind) → is_stop b ≡ true → longest_
 slash_same [] a b k l h = slash_here b (stop_no_star b l) ∙ ap (λ j. Some (j, 0)) (slash_star a k h).1
 slash_same (x ∷ c) a b k l h = let p = slash_star (x ∷ c ++ a) k h in slash_here (x ∷ c ++ b) p.0 ∙ ap (λ j. Some (j, 0)) p.1
 
+abbrev is_slash : State → Bool
+is_slash state.Slash = true
+is_slash s = false
+
+is_slash-eq : (s : State) → is_slash s ≡ true → s ≡ state.Slash
+is_slash-eq state.Slash h = refl
+is_slash-eq s h = cc
+
+abbrev has_solid : Option Kind → Bool
+has_solid None = false
+has_solid (Some k) = is_solid k
+
 calm_or_slash : (s : State) (after : List Class) (k : Kind) → ended s after ≡ Some k → is_solid k ≡ true → (is_calm s ≡ true) ⊎ (s ≡ state.Slash)
-calm_or_slash state.Slash after k h e = inr refl
-calm_or_slash state.White after k h e = let f = same_inside kind.White k h in let g : is_solid kind.White ≡ true = subst (λ j. is_solid j ≡ true) (sym f) e in cc
-calm_or_slash state.Start after k h e = cc
-calm_or_slash state.Comment after k h e = cc
-calm_or_slash state.CommentStar after k h e = cc
-calm_or_slash state.DoubleQuoted after k h e = cc
-calm_or_slash state.SingleQuoted after k h e = cc
-calm_or_slash state.UrlStart after k h e = cc
-calm_or_slash state.UrlWhite after k h e = cc
-calm_or_slash state.UrlText after k h e = cc
-calm_or_slash state.UrlAfter after k h e = cc
-calm_or_slash s after k h e = inl refl
+calm_or_slash s after k h e =
+    let f : has_solid (ended s []) ≡ true = ap has_solid (ended_aside s after k h) ∙ e in
+    elim (or_cases (is_calm s) (is_slash s) (implied (has_solid (ended s [])) (is_calm s || is_slash s) f (each_state (λ r. not (has_solid (ended r [])) || (is_calm r || is_slash r)) refl s))) [
+      | inl i ↦ inl i
+      | inr i ↦ inr (is_slash-eq s i)
+    ]
 
 -- a token that is not white space or a comment is kept
 pub kept : (s : State) (c a b : List Class) (k : Kind) → is_solid k ≡ true → is_stop a ≡ true → is_stop b ≡ true → longest_in s (c ++ a) ≡ Some (k, 0) → longest_in s (c ++ b) ≡ Some (k, 0)

@@ -4,6 +4,7 @@ pub mod Firsts
 pub mod Fronts
 pub mod Kept
 pub mod MachineRows
+pub mod MachineStates
 pub mod OneBracketFault
 pub mod OneReading
 pub mod Reading

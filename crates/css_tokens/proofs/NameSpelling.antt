@@ -1,14 +1,14 @@
 -- Which texts spell an Ident or a Hash in ASCII without escapes, and what may stand next to them.
 use Rattle.std.proofs.Common.{◌≡◌, ℕ, ◌<◌, List, [], ◌∷◌, ◌++◌, Bool, true, false, not, ◌&&◌, ◌||◌, ltb, eqb, cond, refl, sym, ap, ap₂, ◌∙◌, subst, inl, inr, Some, None, codes}
 use Rattle.std.specs.List.{list_all}
-use Rattle.std.proofs.lemmas.Bool.{cases_Bool, and_parts, not-true, eqb-true, ltb-true, lt-ltb, false≢true, agree_below_at}
+use Rattle.std.proofs.lemmas.Bool.{cases_Bool, and_parts, or_cases, not-true, eqb-true, ltb-true, lt-ltb, false≢true, agree_below_at}
 use Rattle.css_tokens.specs.declared.class.Class.{Class}
 use Rattle.css_tokens.specs.declared.class.Class.TheVariants as class
 use Rattle.css_tokens.specs.declared.kind.Kind.TheVariants as kind
 use Rattle.css_tokens.specs.declared.machine.State.{State}
 use Rattle.css_tokens.specs.declared.machine.State.TheVariants as state
 use Rattle.css_tokens.specs.Again.{StaysFirst, word_from, begins_none, after_name, digit, digit_or_dot}
-use Rattle.css_tokens.specs.Characters.{class_of, has, is_class, name, name_start, white}
+use Rattle.css_tokens.specs.Characters.{classes, class_of, has, is_class, name, name_start, white}
 use Rattle.css_tokens.specs.Kinds.{begins, starts, is_kind, kind_of, table}
 use Rattle.css_tokens.specs.Private.Machine.{next, ended}
 use Rattle.css_tokens.specs.PlainNames.{is_plain, is_plain_start, is_plain_after_dash, is_plain_name}
@@ -17,11 +17,11 @@ use Rattle.css_tokens.specs.Tokens as tokens
 use Rattle.css_tokens.proofs.Again.{comes_from, begun, dies_at}
 use Rattle.css_tokens.proofs.Firsts.{by_table}
 use Rattle.css_tokens.proofs.Fronts.{longest_in, longest_in-nil, longest_in-step, longest_in-dead}
-use Rattle.css_tokens.proofs.MachineRows.{each_class}
+use Rattle.css_tokens.proofs.MachineStates.{implied, each_class, each_state, each_step}
 use Rattle.css_tokens.proofs.PlainNameLemmas.{plain-ascii, start-plain}
 use Rattle.css_tokens.proofs.Rebuilt.{both}
 use Rattle.css_tokens.proofs.Runs.{run, kind_of-run, one_more}
-use Rattle.css_tokens.proofs.Stays.{stays_by, not_function}
+use Rattle.css_tokens.proofs.Stays.{stays_by, dies_by, not_function}
 
 -- The classes of ASCII characters.
 
@@ -60,154 +60,19 @@ no_ident (state.End k) = not (is_kind kind.Ident k)
 no_ident s = true
 
 no_ident-step : (s : State) (x : Class) → no_ident s ≡ true → no_ident (next s x) ≡ true
-no_ident-step state.White x h = each_class (λ c. no_ident (next state.White c)) refl x
-no_ident-step state.Slash x h = each_class (λ c. no_ident (next state.Slash c)) refl x
-no_ident-step state.Comment x h = each_class (λ c. no_ident (next state.Comment c)) refl x
-no_ident-step state.CommentStar x h = each_class (λ c. no_ident (next state.CommentStar c)) refl x
-no_ident-step state.DoubleQuoted x h = each_class (λ c. no_ident (next state.DoubleQuoted c)) refl x
-no_ident-step state.SingleQuoted x h = each_class (λ c. no_ident (next state.SingleQuoted c)) refl x
-no_ident-step state.Less x h = each_class (λ c. no_ident (next state.Less c)) refl x
-no_ident-step state.LessBang x h = each_class (λ c. no_ident (next state.LessBang c)) refl x
-no_ident-step state.LessBangMinus x h = each_class (λ c. no_ident (next state.LessBangMinus c)) refl x
-no_ident-step state.At x h = each_class (λ c. no_ident (next state.At c)) refl x
-no_ident-step state.AtMinus x h = each_class (λ c. no_ident (next state.AtMinus c)) refl x
-no_ident-step state.AtName x h = each_class (λ c. no_ident (next state.AtName c)) refl x
-no_ident-step state.Hash x h = each_class (λ c. no_ident (next state.Hash c)) refl x
-no_ident-step state.HashName x h = each_class (λ c. no_ident (next state.HashName c)) refl x
-no_ident-step state.Plus x h = each_class (λ c. no_ident (next state.Plus c)) refl x
-no_ident-step state.Dot x h = each_class (λ c. no_ident (next state.Dot c)) refl x
-no_ident-step state.Point x h = each_class (λ c. no_ident (next state.Point c)) refl x
-no_ident-step state.Integer x h = each_class (λ c. no_ident (next state.Integer c)) refl x
-no_ident-step state.Fraction x h = each_class (λ c. no_ident (next state.Fraction c)) refl x
-no_ident-step state.Exponent x h = each_class (λ c. no_ident (next state.Exponent c)) refl x
-no_ident-step state.ExponentPlus x h = each_class (λ c. no_ident (next state.ExponentPlus c)) refl x
-no_ident-step state.ExponentMinus x h = each_class (λ c. no_ident (next state.ExponentMinus c)) refl x
-no_ident-step state.ExponentDigits x h = each_class (λ c. no_ident (next state.ExponentDigits c)) refl x
-no_ident-step state.ExponentDash x h = each_class (λ c. no_ident (next state.ExponentDash c)) refl x
-no_ident-step state.PlusDigits x h = each_class (λ c. no_ident (next state.PlusDigits c)) refl x
-no_ident-step state.UnitMinus x h = each_class (λ c. no_ident (next state.UnitMinus c)) refl x
-no_ident-step state.Unit x h = each_class (λ c. no_ident (next state.Unit c)) refl x
-no_ident-step state.UrlStart x h = each_class (λ c. no_ident (next state.UrlStart c)) refl x
-no_ident-step state.UrlWhite x h = each_class (λ c. no_ident (next state.UrlWhite c)) refl x
-no_ident-step state.UrlText x h = each_class (λ c. no_ident (next state.UrlText c)) refl x
-no_ident-step state.UrlAfter x h = each_class (λ c. no_ident (next state.UrlAfter c)) refl x
-no_ident-step (state.End k) x h = refl
-no_ident-step state.Dead x h = refl
-no_ident-step s x h = cc
+no_ident-step s x h = implied (no_ident s) (no_ident (next s x)) h (each_step (λ r c. not (no_ident r) || no_ident (next r c)) refl s x)
 
 abbrev is_ident_at : State → Bool
 is_ident_at s = names kind.Ident (ended s [])
 
 no_ident-here : (s : State) → no_ident s ≡ true → is_ident_at s ≡ false
-no_ident-here (state.End k) h = not-true (is_kind kind.Ident k) h
-no_ident-here state.Start h = refl
-no_ident-here state.Minus h = refl
-no_ident-here state.MinusMinus h = absurd (false≢true h)
-no_ident-here state.Name h = absurd (false≢true h)
-no_ident-here state.White h = refl
-no_ident-here state.Slash h = refl
-no_ident-here state.Comment h = refl
-no_ident-here state.CommentStar h = refl
-no_ident-here state.DoubleQuoted h = refl
-no_ident-here state.SingleQuoted h = refl
-no_ident-here state.Less h = refl
-no_ident-here state.LessBang h = refl
-no_ident-here state.LessBangMinus h = refl
-no_ident-here state.At h = refl
-no_ident-here state.AtMinus h = refl
-no_ident-here state.AtName h = refl
-no_ident-here state.Hash h = refl
-no_ident-here state.HashName h = refl
-no_ident-here state.Plus h = refl
-no_ident-here state.Dot h = refl
-no_ident-here state.Point h = refl
-no_ident-here state.Integer h = refl
-no_ident-here state.Fraction h = refl
-no_ident-here state.Exponent h = refl
-no_ident-here state.ExponentPlus h = refl
-no_ident-here state.ExponentMinus h = refl
-no_ident-here state.ExponentDigits h = refl
-no_ident-here state.ExponentDash h = refl
-no_ident-here state.PlusDigits h = refl
-no_ident-here state.UnitMinus h = refl
-no_ident-here state.Unit h = refl
-no_ident-here state.UrlStart h = refl
-no_ident-here state.UrlWhite h = refl
-no_ident-here state.UrlText h = refl
-no_ident-here state.UrlAfter h = refl
-no_ident-here state.Dead h = refl
+no_ident-here s h = not-true (is_ident_at s) (implied (no_ident s) (not (is_ident_at s)) h (each_state (λ r. not (no_ident r) || not (is_ident_at r)) refl s))
 
 no_ident-run : (s : State) (t : List Class) → no_ident s ≡ true → is_ident_at (run s t) ≡ false
 no_ident-run s [] h = no_ident-here s h
 no_ident-run s (x ∷ t) h = no_ident-run (next s x) t (no_ident-step s x h)
 
 -- Behind the start of a name an Ident goes on with name characters.
-
-ident-name : (t : List Class) → is_ident_at (run state.Name t) ≡ list_all (has name) t
-ident-name [] = refl
-ident-name (class.Exponent ∷ t) = ident-name t
-ident-name (class.Letter ∷ t) = ident-name t
-ident-name (class.High ∷ t) = ident-name t
-ident-name (class.Digit ∷ t) = ident-name t
-ident-name (class.Minus ∷ t) = ident-name t
-ident-name (class.Blank ∷ t) = no_ident-run state.Dead t refl
-ident-name (class.Newline ∷ t) = no_ident-run state.Dead t refl
-ident-name (class.DoubleQuote ∷ t) = no_ident-run state.Dead t refl
-ident-name (class.SingleQuote ∷ t) = no_ident-run state.Dead t refl
-ident-name (class.Hash ∷ t) = no_ident-run state.Dead t refl
-ident-name (class.Star ∷ t) = no_ident-run state.Dead t refl
-ident-name (class.Plus ∷ t) = no_ident-run state.Dead t refl
-ident-name (class.Dot ∷ t) = no_ident-run state.Dead t refl
-ident-name (class.Slash ∷ t) = no_ident-run state.Dead t refl
-ident-name (class.Less ∷ t) = no_ident-run state.Dead t refl
-ident-name (class.Greater ∷ t) = no_ident-run state.Dead t refl
-ident-name (class.Bang ∷ t) = no_ident-run state.Dead t refl
-ident-name (class.At ∷ t) = no_ident-run state.Dead t refl
-ident-name (class.Percent ∷ t) = no_ident-run state.Dead t refl
-ident-name (class.Colon ∷ t) = no_ident-run state.Dead t refl
-ident-name (class.Semicolon ∷ t) = no_ident-run state.Dead t refl
-ident-name (class.Comma ∷ t) = no_ident-run state.Dead t refl
-ident-name (class.OpenParen ∷ t) = no_ident-run (state.End kind.Function) t refl
-ident-name (class.Open ∷ t) = no_ident-run state.Dead t refl
-ident-name (class.CloseParen ∷ t) = no_ident-run state.Dead t refl
-ident-name (class.Close ∷ t) = no_ident-run state.Dead t refl
-ident-name (class.Symbol ∷ t) = no_ident-run state.Dead t refl
-ident-name (class.Backslash ∷ t) = no_ident-run state.Dead t refl
-ident-name (class.Control ∷ t) = no_ident-run state.Dead t refl
-
-ident-dashes : (t : List Class) → is_ident_at (run state.MinusMinus t) ≡ list_all (has name) t
-ident-dashes [] = refl
-ident-dashes (class.Exponent ∷ t) = ident-name t
-ident-dashes (class.Letter ∷ t) = ident-name t
-ident-dashes (class.High ∷ t) = ident-name t
-ident-dashes (class.Digit ∷ t) = ident-name t
-ident-dashes (class.Minus ∷ t) = ident-name t
-ident-dashes (class.Blank ∷ t) = no_ident-run state.Dead t refl
-ident-dashes (class.Newline ∷ t) = no_ident-run state.Dead t refl
-ident-dashes (class.DoubleQuote ∷ t) = no_ident-run state.Dead t refl
-ident-dashes (class.SingleQuote ∷ t) = no_ident-run state.Dead t refl
-ident-dashes (class.Hash ∷ t) = no_ident-run state.Dead t refl
-ident-dashes (class.Star ∷ t) = no_ident-run state.Dead t refl
-ident-dashes (class.Plus ∷ t) = no_ident-run state.Dead t refl
-ident-dashes (class.Dot ∷ t) = no_ident-run state.Dead t refl
-ident-dashes (class.Slash ∷ t) = no_ident-run state.Dead t refl
-ident-dashes (class.Less ∷ t) = no_ident-run state.Dead t refl
-ident-dashes (class.Greater ∷ t) = no_ident-run (state.End kind.Cdc) t refl
-ident-dashes (class.Bang ∷ t) = no_ident-run state.Dead t refl
-ident-dashes (class.At ∷ t) = no_ident-run state.Dead t refl
-ident-dashes (class.Percent ∷ t) = no_ident-run state.Dead t refl
-ident-dashes (class.Colon ∷ t) = no_ident-run state.Dead t refl
-ident-dashes (class.Semicolon ∷ t) = no_ident-run state.Dead t refl
-ident-dashes (class.Comma ∷ t) = no_ident-run state.Dead t refl
-ident-dashes (class.OpenParen ∷ t) = no_ident-run (state.End kind.Function) t refl
-ident-dashes (class.Open ∷ t) = no_ident-run state.Dead t refl
-ident-dashes (class.CloseParen ∷ t) = no_ident-run state.Dead t refl
-ident-dashes (class.Close ∷ t) = no_ident-run state.Dead t refl
-ident-dashes (class.Symbol ∷ t) = no_ident-run state.Dead t refl
-ident-dashes (class.Backslash ∷ t) = no_ident-run state.Dead t refl
-ident-dashes (class.Control ∷ t) = no_ident-run state.Dead t refl
-
--- Into a name.
 
 abbrev is_name_state : State → Bool
 is_name_state state.Name = true
@@ -216,6 +81,33 @@ is_name_state s = false
 name_state-eq : (s : State) → is_name_state s ≡ true → s ≡ state.Name
 name_state-eq state.Name h = refl
 name_state-eq s h = cc
+
+abbrev in_or_out : State → Class → Bool
+in_or_out s x = (has name x && is_name_state (next s x)) || (not (has name x) && no_ident (next s x))
+
+no_more : (a b : Bool) → a ≡ false → (a && b) ≡ false
+no_more true b h = cc
+no_more false b h = refl
+
+module _ (s : State) (h : list_all (in_or_out s) classes ≡ true) where
+  ident-more : (x : Class) (t : List Class) → (is_ident_at (run state.Name t) ≡ list_all (has name) t) → is_ident_at (run s (x ∷ t)) ≡ list_all (has name) (x ∷ t)
+  ident-more x t e =
+      elim (or_cases (has name x && is_name_state (next s x)) (not (has name x) && no_ident (next s x)) (each_class (in_or_out s) h x)) [
+        | inl i ↦ let p = and_parts (has name x) (is_name_state (next s x)) i in
+            ap (λ r. is_ident_at (run r t)) (name_state-eq (next s x) p.1) ∙ e ∙ sym (ap (λ b. b && list_all (has name) t) p.0)
+        | inr i ↦ let p = and_parts (not (has name x)) (no_ident (next s x)) i in
+            no_ident-run (next s x) t p.1 ∙ sym (no_more (has name x) (list_all (has name) t) (not-true (has name x) p.0))
+      ]
+
+ident-name : (t : List Class) → is_ident_at (run state.Name t) ≡ list_all (has name) t
+ident-name [] = refl
+ident-name (x ∷ t) = ident-more state.Name refl x t (ident-name t)
+
+ident-dashes : (t : List Class) → is_ident_at (run state.MinusMinus t) ≡ list_all (has name) t
+ident-dashes [] = refl
+ident-dashes (x ∷ t) = ident-more state.MinusMinus refl x t (ident-name t)
+
+-- Into a name.
 
 chosen : (a b : Bool) → a ≡ true → (not a || b) ≡ true → b ≡ true
 chosen a b h k = sym (ap (λ x. not x || b) h) ∙ k
@@ -468,32 +360,19 @@ plain_run (b ∷ bs) h f =
           start_run state.Start b bs start_name p.0 p.1
     ]
 
-name_dies : dies_at state.Name after_name
-name_dies class.Exponent h = cc
-name_dies class.Letter h = cc
-name_dies class.High h = cc
-name_dies class.Digit h = cc
-name_dies class.Minus h = cc
-name_dies class.OpenParen h = cc
-name_dies x h = refl
-
 pub plain_stays : (n rest : List ℕ) → is_plain_name n ≡ true → (n ≡ codes "--" → ⊥) → begins_none after_name rest ≡ true → StaysFirst (word_from kind.Ident n) rest
 plain_stays n rest h f k =
     let e = plain_run n h f in
     let i : ended (run state.Start (classes_of n)) [] ≡ Some kind.Ident = ap (λ s. ended s []) e in
-    stays_by n kind.Ident after_name rest (subst (λ s. dies_at s after_name) (sym e) name_dies) i (λ after. ap (λ s. ended s after) e ∙ sym i) (not_function n kind.Ident refl i) k
+    stays_by n kind.Ident after_name rest (subst (λ s. dies_at s after_name) (sym e) (dies_by state.Name after_name refl)) i (λ after. ap (λ s. ended s after) e ∙ sym i) (not_function n kind.Ident refl i) k
 
 -- A `+` before a `.` that begins no number.
-
-point_dies : (x : Class) → has (class.Digit ∷ []) x ≡ false → next state.Point x ≡ state.Dead
-point_dies class.Digit h = cc
-point_dies x h = refl
 
 point_none : (t : List Class) → begins (class.Digit ∷ []) t ≡ false → longest_in state.Point t ≡ None
 point_none [] h = longest_in-nil state.Point
 point_none (x ∷ t) h =
     longest_in-step state.Point x t
-    ∙ ap (λ o. one_more o None) (ap (λ s. longest_in s t) (point_dies x (begun (class.Digit ∷ []) x t h)) ∙ longest_in-dead t)
+    ∙ ap (λ o. one_more o None) (ap (λ s. longest_in s t) (dies_by state.Point (class.Digit ∷ []) refl x (begun (class.Digit ∷ []) x t h)) ∙ longest_in-dead t)
 
 pub plus_dot_stays : (rest : List ℕ) → begins_none digit rest ≡ true → StaysFirst (word_from kind.Delim (codes "+")) (codes "." ++ rest)
 plus_dot_stays rest h =

@@ -17,30 +17,13 @@ use Rattle.css_tokens.specs.Private.Machine.{rows}
 use Rattle.css_tokens.specs.Piece.{Word}
 use Rattle.css_tokens.specs.Tokens.{First, first_front, front_of, url_rule, word, longer, classes_of, is_url, quote_follows, names, spells}
 use Rattle.css_tokens.proofs.Fronts.{longest_in}
+use Rattle.css_tokens.proofs.MachineStates.{each_kind}
 use Rattle.css_tokens.proofs.Reading.{mapped, chained}
 use Rattle.css_tokens.proofs.Runs.{run, kind_of-run, reach, longest-ended, ended_aside, longest_within, same_inside}
 
 -- a kind is itself
-is_kind-refl : (k : Kind) → is_kind k k ≡ true
-is_kind-refl kind.White = refl
-is_kind-refl kind.Comment = refl
-is_kind-refl kind.Ident = refl
-is_kind-refl kind.Function = refl
-is_kind-refl kind.Url = refl
-is_kind-refl kind.At = refl
-is_kind-refl kind.Hash = refl
-is_kind-refl kind.String = refl
-is_kind-refl kind.Number = refl
-is_kind-refl kind.Percentage = refl
-is_kind-refl kind.Dimension = refl
-is_kind-refl kind.Colon = refl
-is_kind-refl kind.Semicolon = refl
-is_kind-refl kind.Comma = refl
-is_kind-refl kind.Open = refl
-is_kind-refl kind.Close = refl
-is_kind-refl kind.Delim = refl
-is_kind-refl kind.Cdo = refl
-is_kind-refl kind.Cdc = refl
+pub is_kind-refl : (k : Kind) → is_kind k k ≡ true
+is_kind-refl k = each_kind (λ j. is_kind j j) refl k
 
 pub classes_length : (t : List ℕ) → length (classes_of t) ≡ length t
 classes_length [] = refl
