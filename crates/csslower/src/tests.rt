@@ -1,5 +1,9 @@
+mod arguments;
 mod examples;
+mod large;
+mod large_texts;
 mod rows;
+mod stingy;
 
 use crate::gate::NoGate;
 use crate::run::run;
