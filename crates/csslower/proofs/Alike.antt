@@ -9,7 +9,6 @@ use Rattle.csslower.specs.Answers.{IsLong, IsFirst, IsFine, LimitFits, RefusalFi
 use Rattle.csslower.specs.Leaving.{WinnersFit}
 use Rattle.csslower.specs.Private.Loading.{alike}
 use Rattle.csslower.specs.Saying.{Said, SaysRefusal}
-use Rattle.csslower.specs.Writing.{WroteAll, WroteFront}
 use Rattle.csslower.specs.declared.status.Status.{Status}
 use Rattle.csslower.specs.declared.status.Status.TheVariants.{Done, Refused, Usage, ReadFault, WriteFault, Memory, Limit}
 use Rattle.csslower.proofs.Parts.{told_weaker}

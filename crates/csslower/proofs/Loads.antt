@@ -1,5 +1,5 @@
 -- What a read says of a file.
-use Rattle.std.proofs.Common.{◌≡◌, ℕ, ◌+◌, ◌<◌, ◌≤◌, List, length, take, Option, Some, None, IfSome, subst, sym, ap, arith, length-take, take_all, ◌∙◌, refl}
+use Rattle.std.proofs.Common.{◌≡◌, ℕ, ◌+◌, ◌<◌, ◌≤◌, List, length, take, Option, Some, None, IfSome, sym, ap, arith, length-take, take_all, ◌∙◌, refl}
 use Rattle.std.specs.Option.{option_map}
 use Rattle.css_outside.specs.Names.{Names}
 use Rattle.css_outside.specs.Reading.{first_bytes}

@@ -1,11 +1,10 @@
 -- What is said of words by whether they name an entry.
-use Rattle.std.proofs.Common.{◌≡◌, ℕ, List, Option, Some, None, Result, Ok, IfOk, is_none, if◌then◌else◌, subst, sym, ap, ◌∙◌, refl}
-use Rattle.css_outside.specs.Names.{Names}
-use Rattle.csslower.specs.Answers.{UsageFits, IsFirstOfSources, First}
+use Rattle.std.proofs.Common.{◌≡◌, ℕ, List, Option, Some, None, Result, Ok, IfOk, is_none, if◌then◌else◌, subst, sym, ap, ◌∙◌}
+use Rattle.csslower.specs.Answers.{UsageFits}
 use Rattle.csslower.specs.Private.Stages.{IsOfCommand}
 use Rattle.csslower.specs.Words.{entry_of, usage_of}
 use Rattle.csslower.specs.declared.status.Status.{Status}
-use Rattle.csslower.specs.declared.status.Status.TheVariants.{Done, Refused, Usage, ReadFault, WriteFault, Memory, Limit}
+use Rattle.csslower.specs.declared.status.Status.TheVariants.{Usage}
 use Rattle.csslower.specs.declared.status.WordKind.{WordKind}
 use Rattle.csslower.specs.declared.status.WordKind.TheVariants.{Words}
 

@@ -1,4 +1,4 @@
-use Rattle.std.proofs.Common.{List, ℕ, IfSome, map, string_bytes, drop}
+use Rattle.std.proofs.Common.{IfSome, map, string_bytes, drop}
 use Rattle.std.specs.Vec.Iter.{into_iter_items}
 use Rattle.csslower.specs.Answers.{UsageFits, First}
 use Rattle.csslower.proofs.Usages.{of_ok}

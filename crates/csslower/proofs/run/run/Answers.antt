@@ -1,4 +1,4 @@
-use Rattle.std.proofs.Common.{List, ℕ, [], Option, IfSome, map, sym, ap, subst}
+use Rattle.std.proofs.Common.{List, ℕ, [], Option, IfSome, map, sym, subst}
 use Rattle.std.specs.Option.{unwrap_or}
 use Rattle.css_outside.specs.Counts.{Rose}
 use Rattle.css_outside.specs.Names.{Told}
