@@ -1,12 +1,11 @@
 -- The faults of a selector list stand in order.
-use Rattle.std.proofs.Common.{◌≡◌, ℕ, ◌≤◌, List, [], ◌∷◌, ◌++◌, Bool, true, false, refl, sym, ◌∙◌, ap, subst, Option, Some, None, inl, inr, arith, nat_lt, IsTrue}
+use Rattle.std.proofs.Common.{◌≡◌, ℕ, ◌≤◌, List, [], ◌∷◌, ◌++◌, Bool, true, false, sym, ◌∙◌, ap, subst, Option, Some, None, inl, inr, arith, nat_lt, IsTrue}
 use Rattle.std.specs.Prelude.{is_some, unwrap_or, if◌then◌else◌, not}
 use Rattle.std.specs.List.{AllByRecursion, find, filter_map, cons_option}
 use Rattle.std.specs.Option.{option_map}
 use Rattle.std.proofs.lemmas.Bool.{leb-true}
 use Rattle.std.proofs.lemmas.Bool.Decides.{nat_tests}
-use Rattle.css_tokens.specs.declared.component.Component.{Component, out-Component}
-use Rattle.css_tokens.specs.declared.component.Component.TheOpen.{Single, Block}
+use Rattle.css_tokens.specs.declared.component.Component.{Component}
 use Rattle.css_tokens.specs.declared.component.Component.TheVariants.{outs-Single, outs-Block}
 use Rattle.css_tokens.specs.Piece.{Piece}
 use Rattle.css_tokens.specs.Pairing.{places_rise}

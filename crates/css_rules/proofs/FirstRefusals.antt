@@ -1,5 +1,5 @@
 -- The refusal that is named stands, and leads all others.
-use Rattle.std.proofs.Common.{◌≡◌, ℕ, suc, length, ◌<◌, List, [], ◌∷◌, true, refl, sym, subst, Option, Some, None, inl, inr, ◌⊎◌, arith, IsTrue}
+use Rattle.std.proofs.Common.{◌≡◌, suc, length, ◌<◌, List, [], ◌∷◌, refl, sym, subst, Option, Some, None, inl, inr, ◌⊎◌, arith, IsTrue}
 use Rattle.std.specs.List.{AllByRecursion, Contains}
 use Rattle.std.proofs.lemmas.Bool.{cases_Bool}
 use Rattle.css_rules.specs.declared.refusal.Refusal.{Refusal}

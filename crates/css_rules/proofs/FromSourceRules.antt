@@ -1,5 +1,5 @@
 -- What a list of components without refusals is read as is printable.
-use Rattle.std.proofs.Common.{◌≡◌, ℕ, List, [], ◌∷◌, true, false, refl, sym, ◌∙◌, ◌&&◌, ◌||◌, ◌++◌, ap, subst, Some, None, flat_map, MatchOption, inl, inr}
+use Rattle.std.proofs.Common.{◌≡◌, List, [], ◌∷◌, true, false, refl, sym, ◌∙◌, ◌&&◌, ◌||◌, ◌++◌, ap, subst, Some, flat_map, MatchOption, inl, inr}
 use Rattle.std.specs.List.{list_all, list_any, AllByRecursion}
 use Rattle.std.proofs.lemmas.List.{append-nil}
 use Rattle.std.proofs.lemmas.List.Concat.{flat_map-append}

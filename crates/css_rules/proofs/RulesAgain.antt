@@ -25,7 +25,6 @@ use Rattle.css_rules.specs.ReadAll.{joined, read_all}
 use Rattle.css_rules.specs.Sheets.{begins_at_rule, declarations_of, ends_rule, first_place, leftover, rule_of, rules_of, run_of, sheet_of, style_of, style_with}
 use Rattle.css_rules.specs.Runs.{Run, BareRun, BareDeclaration, bare_run, bare_declaration, runs_within, bare_runs, runs_within-Plain, runs_within-Style}
 use Rattle.css_rules.specs.Printable.{IsPrintable, IsPrintableDeclaration, ArePrintable, is_nesting}
-use Rattle.css_rules.specs.SheetTexts.{innermost}
 use Rattle.css_rules.specs.SheetAgain.{line_feed, declarations_again, block_again, run_again, sheet_again}
 use Rattle.css_rules.proofs.CutLemmas.{front-cut, goes_on, trimmed_start-gap, whole-cut}
 use Rattle.css_rules.proofs.ListsRead.{list-whole}

@@ -2,16 +2,13 @@
 use Rattle.std.proofs.Common.{◌≡◌, List, [], ◌∷◌, ◌++◌, map, flat_map, refl, sym, ◌∙◌, ap}
 use Rattle.std.proofs.lemmas.List.{append-nil, map-append}
 use Rattle.std.proofs.lemmas.Grind.{flat_map-append}
-use Rattle.std.proofs.lemmas.List.Folds.{flat_map-map}
 use Rattle.css_rules.specs.declared.sheet.Declaration.{Declaration}
 use Rattle.css_rules.specs.declared.sheet.Item.{Item}
-use Rattle.css_rules.specs.declared.sheet.Item as item
-use Rattle.css_rules.specs.declared.sheet.Style as style
 use Rattle.css_rules.specs.declared.sheet.Sheet.{Sheet}
 use Rattle.css_rules.specs.BareSelectors.{bare_list}
 use Rattle.css_rules.specs.Contexts.{Context, outside, under_list}
 use Rattle.css_rules.specs.ItemInduction.{Each, by_items}
-use Rattle.css_rules.specs.Runs.{Run, BareRun, bare_run, bare_runs, bare_declaration, runs_of, runs_within, runs_within-Plain, runs_within-Style}
+use Rattle.css_rules.specs.Runs.{Run, bare_run, bare_runs, bare_declaration, runs_within, runs_within-Plain, runs_within-Style}
 use Rattle.css_rules.specs.Statements.{Statement, Declares, says, say_all, statements_of, says-Plain, says-Style}
 use Rattle.css_rules.specs.RunStatements.{run_says}
 

@@ -1,12 +1,12 @@
 -- Whether a token is sought, and the refusal at the first that is.
-use Rattle.std.proofs.Common.{◌≡◌, ℕ, List, [], ◌∷◌, Bool, true, false, ◌||◌, Option, Some, None, refl, sym, ◌∙◌, ap, cond, find}
+use Rattle.std.proofs.Common.{◌≡◌, List, [], ◌∷◌, Bool, true, false, ◌||◌, Option, Some, refl, sym, ◌∙◌, cond, find}
 use Rattle.std.specs.List.{list_any}
 use Rattle.css_tokens.specs.declared.component.Component.{Component}
 use Rattle.css_tokens.specs.Piece.{Piece}
 use Rattle.css_tokens.specs.Trees.{pieces_all}
 use Rattle.css_rules.specs.declared.refusal.Refusal.{Refusal}
 use Rattle.css_rules.specs.declared.refusal.Sought.{Sought}
-use Rattle.css_rules.specs.Refusals.{unbuilt, unbuilt_at, is_sought, has_sought, sought_in}
+use Rattle.css_rules.specs.Refusals.{unbuilt_at, is_sought, has_sought, sought_in}
 
 abbrev found_by : Piece → Option Piece → Bool → Option Piece
 found_by p rest b = cond b (Some p) rest

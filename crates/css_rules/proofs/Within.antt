@@ -1,5 +1,5 @@
 -- Components whose tokens all stand within a text, and the faults of a selector list made of them.
-use Rattle.std.proofs.Common.{◌≡◌, ℕ, ◌≤◌, List, [], ◌∷◌, ◌++◌, Bool, true, false, ◌&&◌, not, refl, sym, ◌∙◌, ap, subst, Option, Some, None, MatchOption, inl, inr, nat_le, le-leb}
+use Rattle.std.proofs.Common.{◌≡◌, ℕ, ◌≤◌, List, [], ◌∷◌, ◌++◌, Bool, true, false, ◌&&◌, not, refl, sym, ◌∙◌, ap, Option, Some, None, MatchOption, inl, inr, nat_le, le-leb}
 use Rattle.std.specs.Prelude.{is_some, unwrap_or, if◌then◌else◌}
 use Rattle.std.specs.List.{list_all, find, filter_map, cons_option, AllByRecursion}
 use Rattle.std.specs.Option.{option_map}
@@ -8,11 +8,10 @@ use Rattle.std.proofs.lemmas.List.Folds.{list_all-append}
 use Rattle.css_tokens.specs.declared.component.Component.{Component, out-Component}
 use Rattle.css_tokens.specs.declared.component.Component as component
 use Rattle.css_tokens.specs.declared.component.Block as block
-use Rattle.css_tokens.specs.declared.component.Component.TheOpen.{Single, Block}
 use Rattle.css_tokens.specs.declared.component.Component.TheVariants.{outs-Single}
 use Rattle.css_tokens.specs.Piece.{Piece}
 use Rattle.css_tokens.specs.Trees.{pieces_of, pieces_all, closing, pieces_of-Single, pieces_of-Block}
-use Rattle.css_rules.specs.Components.{Layer, head, inside, layer_head, layer_items, place_of, is_comma, is_gap}
+use Rattle.css_rules.specs.Components.{head, inside, layer_items, place_of, is_comma, is_gap}
 use Rattle.css_rules.specs.Selectors.{Member, empty_before, with_component, cut_at_commas, members_of, selector_of, first_place, fault_of, list_faults}
 use Rattle.css_rules.proofs.Heads.{head-Single, head-Block, inside-Block}
 use Rattle.css_rules.proofs.SelectorSpelling.{and-left, and-right, and-both}

@@ -1,5 +1,5 @@
 -- What holds of every item.
-use Rattle.std.specs.Prelude.{List, [], ◌∷◌, map, ◌≡◌}
+use Rattle.std.specs.Prelude.{List, [], ◌∷◌, map}
 use Rattle.std.proofs.Common.{sym, subst}
 use Rattle.css_rules.specs.declared.sheet.Declaration.{Declaration}
 use Rattle.css_rules.specs.declared.sheet.Item.{Item, roll-Item, ind-Item}

@@ -1,3 +1,4 @@
+use crate::selector::Selector;
 use crate::testing::{large_list, repeated};
 use crate::{Declaration, Item, RuleFault, Sheet, read_sheet};
 use css_tokens::{Component, components, is_plain_text, places_rise_in_a_text, tokens};
@@ -122,7 +123,10 @@ fn depth(value: &[Component]) -> usize {
     let mut deep = 0;
     let mut inner = value;
     for level in 1..100 {
-        let [Component::Block(block), ..] = inner else {
+        let [first, ..] = inner else {
+            return deep;
+        };
+        let Component::Block(block) = first else {
             return deep;
         };
         deep = level;
@@ -131,17 +135,25 @@ fn depth(value: &[Component]) -> usize {
     deep
 }
 
+/// The selectors of the first rule.
+fn first_selectors<'s, 'a>(sheet: &'s Sheet<'a>) -> &'s [Selector<'a>] {
+    let [first, ..] = sheet.items.as_slice() else {
+        return &[];
+    };
+    match first {
+        Item::Style(style) => style.selectors.as_slice(),
+        Item::Plain(_) => &[],
+    }
+}
+
 #[test]
 fn reads_a_large_rule(rt: HostRuntime) -> Result<(), Fail> {
     let text = large_rule(rt.alloc())?;
     let sheet = read(rt.alloc(), &text)?;
     assert_eq!(rt; sheet.items.len(), 1);
-    let [Item::Style(style)] = sheet.items.as_slice() else {
-        assert!(rt; false);
-        return Ok(());
-    };
-    assert_eq!(rt; style.selectors.len(), 40);
-    for selector in style.selectors.as_slice() {
+    let selectors = first_selectors(&sheet);
+    assert_eq!(rt; selectors.len(), 40);
+    for selector in selectors {
         assert_eq!(rt; selector.rest.len(), 29);
     }
     let run = first_run(&sheet);

@@ -1,4 +1,4 @@
-use Rattle.std.proofs.Common.{◌∙◌, sym, ap, arith, slice_range, slice_get, ◌++◌, ◌+◌, Some, subst, drop}
+use Rattle.std.proofs.Common.{◌∙◌, sym, ap, arith, slice_range, slice_get, ◌+◌, subst}
 use Rattle.std.proofs.lemmas.List.{take_rest}
 use Rattle.std.specs.Option.{option_to_list}
 use Rattle.css_rules.specs.Cuts.{Cut}
