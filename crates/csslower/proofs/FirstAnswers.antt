@@ -1,5 +1,5 @@
 -- Over all words and files there is one answer that stands first.
-use Rattle.std.proofs.Common.{◌≡◌, ℕ, ◌+◌, ◌<◌, List, [], ◌∷◌, Option, Some, None, MatchOption, is_none, unwrap_or, if◌then◌else◌, IsTrue, Bool, true, false, length, map, refl, ap, sym, ◌∙◌, ◌⊎◌, inl, inr, subst, arith, nat_lt}
+use Rattle.std.proofs.Common.{◌≡◌, ℕ, ◌+◌, List, [], ◌∷◌, Option, Some, None, MatchOption, is_none, unwrap_or, if◌then◌else◌, IsTrue, Bool, true, false, length, map, refl, ap, sym, ◌∙◌, ◌⊎◌, inl, inr, subst, arith, nat_lt}
 use Rattle.std.specs.List.{position}
 use Rattle.css_outside.specs.Names.{Names}
 use Rattle.css_tokens.specs.declared.component.Component.{Component}
