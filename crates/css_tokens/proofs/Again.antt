@@ -12,19 +12,21 @@ use Rattle.css_tokens.specs.declared.kind.Kind.{Kind}
 use Rattle.css_tokens.specs.declared.kind.Kind.TheVariants as kind
 use Rattle.css_tokens.specs.declared.machine.State.{State}
 use Rattle.css_tokens.specs.declared.machine.State.TheVariants as state
+use Rattle.css_tokens.specs.declared.machine.Holder.TheVariants as holder
 use Rattle.css_tokens.specs.Characters.{place_of, class_of, has, white, is_class}
 use Rattle.css_tokens.specs.Kinds.{starts, begins}
 use Rattle.css_tokens.specs.Private.Machine.{next, ended}
 use Rattle.css_tokens.specs.Piece.{Word}
 use Rattle.css_tokens.specs.Tokens.{ReadsTo, classes_of, is_url, quote_follows, as_front}
-use Rattle.css_tokens.specs.Again.{StaysFirst, is_stop, Alike, KeepsQuote, is_solid, word_from, marks}
+use Rattle.css_tokens.specs.Again.{StaysFirst, is_odd, is_stop, Alike, KeepsQuote, is_solid, takes, word_from, marks}
 use Rattle.css_tokens.proofs.Derivatives.{is_class-eq}
 use Rattle.css_tokens.proofs.Fronts.{longest_in, longest_in-nil, longest_in-step, longest_in-dead}
 use Rattle.css_tokens.proofs.Firsts.{is_ruled, ByTable, AsUrl, by_table, as_url, first_cases}
-use Rattle.css_tokens.proofs.Kept.{is_calm, kept, calm_same}
+use Rattle.css_tokens.proofs.Kept.{kept, state_takes, state_takes_first}
 use Rattle.css_tokens.proofs.MachineStates.{implied, each_state, each_step}
-use Rattle.css_tokens.proofs.Runs.{run, one_more, reach, reached, longest-ended, ended_aside, found_later}
-use Rattle.css_tokens.proofs.Spelling.{classes_length}
+use Rattle.css_tokens.proofs.Runs.{run, one_more, reach, reached, longest-ended, ended_aside, found_later, same_inside}
+use Rattle.css_tokens.proofs.Takes.{state_takes-word}
+use Rattle.css_tokens.proofs.UrlNames.{classes_length, end_longest, url_found}
 
 -- a front and what follows it, by classes
 classes_append : (a b : List ℕ) → classes_of (a ++ b) ≡ classes_of a ++ classes_of b
@@ -36,28 +38,23 @@ comes_to s u a k h = reach s (classes_of u) (classes_of a) k (ap (longest_in s) 
 pub comes_from : (s : State) (u a : List ℕ) (k : Kind) → longest_in (run s (classes_of u)) (classes_of a) ≡ Some (k, 0) → longest_in s (classes_of (u ++ a)) ≡ Some (k, length u)
 comes_from s u a k h = ap (longest_in s) (classes_append u a) ∙ reached s (classes_of u) (classes_of a) k h ∙ ap (λ (n : ℕ). Some (k, n)) (classes_length u)
 
-alike_classes : (a b : List ℕ) → Alike a b → (c l r : List Class) × (classes_of a ≡ c ++ l) × (classes_of b ≡ c ++ r) × (is_stop l ≡ true) × (is_stop r ≡ true)
+alike_classes : (a b : List ℕ) → Alike a b → (c l r : List Class) × (classes_of a ≡ c ++ l) × (classes_of b ≡ c ++ r) × (is_odd false c ≡ false) × (is_stop r ≡ true)
 alike_classes a b h = (
   classes_of h.same,
   classes_of h.left,
   classes_of h.right,
   ap classes_of h.whole_left ∙ classes_append h.same h.left,
   ap classes_of h.whole_right ∙ classes_append h.same h.right,
-  h.stop_left,
+  h.even,
   h.stop_right,
 )
 
-kept_alike : (s : State) (a b : List ℕ) (k : Kind) → is_solid k ≡ true → Alike a b → longest_in s (classes_of a) ≡ Some (k, 0) → longest_in s (classes_of b) ≡ Some (k, 0)
-kept_alike s a b k e h f =
+kept_alike : (s : State) (a b : List ℕ) (k : Kind) → is_solid k ≡ true → Alike a b → state_takes_first s (classes_of b) ≡ false → longest_in s (classes_of a) ≡ Some (k, 0) → longest_in s (classes_of b) ≡ Some (k, 0)
+kept_alike s a b k e h g f =
     let c = alike_classes a b h in
-    ap (longest_in s) c.4 ∙ kept s c.0 c.1 c.2 k e c.5 c.6 (ap (longest_in s) (sym c.3) ∙ f)
+    ap (longest_in s) c.4 ∙ kept s c.0 c.1 c.2 k e c.5 (ap (state_takes_first s) (sym c.4) ∙ g) c.6 (ap (longest_in s) (sym c.3) ∙ f)
 
-calm_alike : (s : State) (a b : List ℕ) → is_calm s ≡ true → Alike a b → longest_in s (classes_of a) ≡ longest_in s (classes_of b)
-calm_alike s a b e h =
-    let c = alike_classes a b h in
-    ap (longest_in s) c.3 ∙ calm_same s c.0 c.1 c.2 e c.5 c.6 ∙ ap (longest_in s) (sym c.4)
-
--- the letters of `url(`
+-- letters in any case
 lowered : (b n : ℕ) → to_ascii_lowercase b ≡ n → (b ≡ n) ⊎ ((b + 32 ≡ n) × (65 ≤ b))
 lowered b n h =
     elim (cases_Bool (ltb b 65)) [
@@ -75,45 +72,8 @@ lowered_class b n m c e f g h =
       | inr i ↦ let k = i.0 in let j : b ≡ m = omega arith in ap class_of j ∙ g
     ]
 
-paren_class : (b : ℕ) → to_ascii_lowercase b ≡ 40 → class_of b ≡ class.OpenParen
-paren_class b h =
-    elim (lowered b 40 h) [
-      | inl i ↦ ap class_of i
-      | inr i ↦ let k = i.0 in let l = i.1 in absurd (omega arith)
-    ]
-
-abbrev pub url_name : List Class
-url_name = class.Letter ∷ class.Letter ∷ class.Letter ∷ class.OpenParen ∷ []
-
 pub head_tail : (x y : ℕ) (xs ys : List ℕ) → x ∷ xs ≡ y ∷ ys → (x ≡ y) × (xs ≡ ys)
 head_tail x y xs ys h = (cc, cc)
-
-url_by : (p : List ℕ) → map to_ascii_lowercase p ≡ codes "url(" → classes_of p ≡ url_name
-url_by [] h = cc
-url_by (a ∷ []) h = cc
-url_by (a ∷ b ∷ []) h = cc
-url_by (a ∷ b ∷ c ∷ []) h = cc
-url_by (a ∷ b ∷ c ∷ d ∷ []) h =
-    let e = head_tail (to_ascii_lowercase a) 117 _ _ h in
-    let f = head_tail (to_ascii_lowercase b) 114 _ _ e.1 in
-    let g = head_tail (to_ascii_lowercase c) 108 _ _ f.1 in
-    let i = head_tail (to_ascii_lowercase d) 40 _ _ g.1 in
-    ap₂ ◌∷◌ (lowered_class a 117 85 class.Letter refl refl refl e.0)
-    (ap₂ ◌∷◌ (lowered_class b 114 82 class.Letter refl refl refl f.0)
-    (ap₂ ◌∷◌ (lowered_class c 108 76 class.Letter refl refl refl g.0)
-    (ap₂ ◌∷◌ (paren_class d i.0) refl)))
-url_by (a ∷ b ∷ c ∷ d ∷ x ∷ p) h = cc
-
-pub url_classes : (p : List ℕ) → is_url p ≡ true → classes_of p ≡ url_name
-url_classes p h = url_by p ((bytes_decides (map to_ascii_lowercase p) (codes "url(")).0 h)
-
--- a whole token finds nothing longer
-pub end_longest : (k : Kind) (t : List Class) → longest_in (state.End k) t ≡ Some (k, 0)
-end_longest k [] = longest_in-nil (state.End k)
-end_longest k (x ∷ t) = longest_in-step (state.End k) x t ∙ ap (λ o. one_more o (Some k)) (longest_in-dead t)
-
-pub url_found : (p a : List ℕ) → is_url p ≡ true → longest_in state.Start (classes_of (p ++ a)) ≡ Some (kind.Function, length p)
-url_found p a h = comes_from state.Start p a kind.Function (ap (λ c. longest_in (run state.Start c) (classes_of a)) (url_classes p h) ∙ end_longest kind.Function (classes_of a))
 
 -- the inside of a Url
 abbrev in_url_state : State → Bool
@@ -121,6 +81,7 @@ in_url_state state.UrlStart = true
 in_url_state state.UrlWhite = true
 in_url_state state.UrlText = true
 in_url_state state.UrlAfter = true
+in_url_state (state.Escaped holder.UrlText e) = true
 in_url_state (state.End k) = true
 in_url_state state.Dead = true
 in_url_state s = false
@@ -156,13 +117,21 @@ url_run : (s : State) (t : List Class) → in_url_state s ≡ true → in_url_st
 url_run s [] h = h
 url_run s (x ∷ t) h = url_run (next s x) t (url_step s x h)
 
-abbrev calm_end : State → Bool
-calm_end s = not (is_some (ended s [])) || is_calm s
+abbrev pub is_end : State → Bool
+is_end (state.End k) = true
+is_end s = false
 
-url_calm : (s : State) (after : List Class) (k : Kind) → in_url_state s ≡ true → ended s after ≡ Some k → is_calm s ≡ true
-url_calm s after k e h =
-    implied (is_some (ended s [])) (is_calm s) (ap is_some (ended_aside s after k h))
-    (implied (in_url_state s) (calm_end s) e (each_state (λ r. not (in_url_state r) || calm_end r) refl s))
+pub is_end-eq : (s : State) (k : Kind) → is_end s ≡ true → ended s [] ≡ Some k → s ≡ state.End k
+is_end-eq (state.End j) k h e = ap state.End (same_inside j k e)
+is_end-eq s k h e = cc
+
+abbrev ends_whole : State → Bool
+ends_whole s = not (is_some (ended s [])) || is_end s
+
+url_end : (s : State) (after : List Class) (k : Kind) → in_url_state s ≡ true → ended s after ≡ Some k → s ≡ state.End k
+url_end s after k e h =
+    let f = ended_aside s after k h in
+    is_end-eq s k (implied (is_some (ended s [])) (is_end s) (ap is_some f) (implied (in_url_state s) (ends_whole s) e (each_state (λ r. not (in_url_state r) || ends_whole r) refl s))) f
 
 quote_kept : (a b : List ℕ) → KeepsQuote a b → not (quote_follows (classes_of a)) ≡ false → not (quote_follows (classes_of b)) ≡ false
 quote_kept a b q h = ap not (q (not-false (quote_follows (classes_of a)) h))
@@ -174,20 +143,24 @@ ruled_kept u a b q h =
       | inr e ↦ rw e
     ]
 
-table_kept : (w : Word) (a b : List ℕ) → is_solid w.kind ≡ true → Alike a b → (is_url w.text ≡ true → KeepsQuote a b) → ByTable w a → ByTable w b
-table_kept w a b s h q t = record {
-  found = comes_from state.Start w.text b w.kind (kept_alike (run state.Start (classes_of w.text)) a b w.kind s h (comes_to state.Start w.text a w.kind t.found));
-  ruled = ruled_kept w.text a b q t.ruled;
-}
+table_kept : (w : Word) (a b : List ℕ) → is_solid w.kind ≡ true → Alike a b → (is_url w.text ≡ true → KeepsQuote a b) → takes w b ≡ false → ByTable w a → ByTable w b
+table_kept w a b s h q n t =
+    let r = run state.Start (classes_of w.text) in
+    let f = comes_to state.Start w.text a w.kind t.found in
+    let e = ended_aside r (classes_of a) w.kind (longest-ended r (classes_of a) w.kind f) in
+    record {
+      found = comes_from state.Start w.text b w.kind (kept_alike r a b w.kind s h (state_takes-word w b e s ∙ n) f);
+      ruled = ruled_kept w.text a b q t.ruled;
+    }
 
-url_kept : (w : Word) (a b : List ℕ) → Alike a b → AsUrl w a → AsUrl w b
-url_kept w a b h u =
+url_kept : (w : Word) (a b : List ℕ) → AsUrl w a → AsUrl w b
+url_kept w a b u =
     let p = and_parts (is_url u.name) (not (quote_follows (classes_of (u.inside ++ a)))) u.ruled in
     let i = classes_of u.inside in
     let r = run state.UrlStart i in
     let c = comes_to state.UrlStart u.inside a w.kind u.closed in
     let g = longest-ended r (classes_of a) w.kind c in
-    let calm = url_calm r (classes_of a) w.kind (url_run state.UrlStart i refl) g in
+    let end = url_end r (classes_of a) w.kind (url_run state.UrlStart i refl) g in
     let q : quote_follows (classes_of (u.inside ++ b)) ≡ quote_follows (classes_of (u.inside ++ a)) =
     ap quote_follows (classes_append u.inside b)
     ∙ quote_inside state.UrlStart i (classes_of a) (classes_of b) w.kind refl (ap (longest_in state.UrlStart) (sym (classes_append u.inside a)) ∙ u.closed ∙ ap (λ (n : ℕ). Some (w.kind, n)) (sym (classes_length u.inside)))
@@ -199,15 +172,15 @@ url_kept w a b h u =
       whole = u.whole;
       found = url_found u.name (u.inside ++ b) p.0;
       ruled = and_from (is_url u.name) (not (quote_follows (classes_of (u.inside ++ b)))) p.0 (ap not q ∙ p.1);
-      closed = comes_from state.UrlStart u.inside b w.kind (sym (calm_alike r a b calm h) ∙ c);
+      closed = comes_from state.UrlStart u.inside b w.kind (ap (λ s. longest_in s (classes_of b)) end ∙ end_longest w.kind (classes_of b));
     }
 
--- a token that is neither white space nor a comment stays first where what follows it changes behind a stop
-pub keeps : (w : Word) (a b : List ℕ) → is_solid w.kind ≡ true → StaysFirst w a → Alike a b → (is_url w.text ≡ true → KeepsQuote a b) → StaysFirst w b
-keeps w a b s f h q =
+-- a token that is neither white space nor a comment stays first where what follows it changes behind a stop, unless it takes what then follows
+pub keeps : (w : Word) (a b : List ℕ) → is_solid w.kind ≡ true → StaysFirst w a → Alike a b → (is_url w.text ≡ true → KeepsQuote a b) → takes w b ≡ false → StaysFirst w b
+keeps w a b s f h q n =
     elim (first_cases w a f) [
-      | inl t ↦ by_table w b (table_kept w a b s h q t)
-      | inr u ↦ as_url w b (url_kept w a b h u)
+      | inl t ↦ by_table w b (table_kept w a b s h q n t)
+      | inr u ↦ as_url w b (url_kept w a b u)
     ]
 
 -- readings compose
@@ -281,7 +254,7 @@ marks_stay = (
 
 -- the words that stay first where what follows does not go on with them
 abbrev pub dies_at : State → List Class → Type 0
-dies_at s set = (x : Class) → has set x ≡ false → next s x ≡ state.Dead
+dies_at s set = (x : Class) → has set x ≡ false → state_takes s x ≡ false → next s x ≡ state.Dead
 
 is_class-refl : (c : Class) → is_class c c ≡ true
 is_class-refl c = eq-eqb (place_of c) (place_of c) refl
@@ -302,8 +275,8 @@ begun (c ∷ set) x t h =
           ap₂ ◌||◌ (swapped c x e) (begun set x t g)
     ]
 
-pub none_next : (s : State) (set : List Class) (k : Kind) → dies_at s set → ended s [] ≡ Some k → ((after : List Class) → ended s after ≡ ended s []) → (t : List Class) → begins set t ≡ false → longest_in s t ≡ Some (k, 0)
-none_next s set k d e f [] h = longest_in-nil s ∙ ap (option_map (as_front 0)) e
-none_next s set k d e f (x ∷ t) h =
+pub none_next : (s : State) (set : List Class) (k : Kind) → dies_at s set → ended s [] ≡ Some k → ((after : List Class) → ended s after ≡ ended s []) → (t : List Class) → begins set t ≡ false → state_takes_first s t ≡ false → longest_in s t ≡ Some (k, 0)
+none_next s set k d e f [] h g = longest_in-nil s ∙ ap (option_map (as_front 0)) e
+none_next s set k d e f (x ∷ t) h g =
     longest_in-step s x t
-    ∙ ap₂ one_more (ap (λ r. longest_in r t) (d x (begun set x t h)) ∙ longest_in-dead t) (f (x ∷ t) ∙ e)
+    ∙ ap₂ one_more (ap (λ r. longest_in r t) (d x (begun set x t h) g) ∙ longest_in-dead t) (f (x ∷ t) ∙ e)

@@ -24,7 +24,8 @@ use Rattle.css_tokens.proofs.Firsts.{ByTable, AsUrl, first_cases}
 use Rattle.css_tokens.proofs.GapLemmas.{kind_cases}
 use Rattle.css_tokens.proofs.MachineStates.{implied, refuted, each_class, each_state, each_step}
 use Rattle.css_tokens.proofs.Runs.{run, longest-ended, ended_aside, same_inside}
-use Rattle.css_tokens.proofs.Again.{comes_to, head_tail, lowered_class, url_classes}
+use Rattle.css_tokens.proofs.Again.{comes_to, head_tail, lowered_class}
+use Rattle.css_tokens.proofs.UrlNames.{url_state}
 
 -- the states from which a token that may stand behind a value is still read
 abbrev may_end : State → Bool
@@ -161,10 +162,15 @@ dark_first (x ∷ t) after k e h =
       | inr m ↦ (x, t, refl, m)
     ]
 
+more_classes : (c d e : List Class) → ((x : Class) × (t : List Class) × (c ≡ x ∷ t) × (has white x ≡ false)) → e ≡ c ++ d → (x : Class) × (t : List Class) × (e ≡ x ∷ t) × (has white x ≡ false)
+more_classes c d e b h = (b.0, b.1 ++ d, h ∙ ap (λ s. s ++ d) b.2, b.3)
+
 url_dark : (w : Word) (a : List ℕ) → AsUrl w a → (x : Class) × (t : List Class) × (classes_of w.text ≡ x ∷ t) × (has white x ≡ false)
 url_dark w a u =
     let p = and_parts (is_url u.name) _ u.ruled in
-    (class.Letter, class.Letter ∷ class.Letter ∷ class.OpenParen ∷ classes_of u.inside, ap classes_of u.whole ∙ map-append class_of u.name u.inside ∙ ap (λ c. c ++ classes_of u.inside) (url_classes u.name p.0), refl)
+    more_classes (classes_of u.name) (classes_of u.inside) (classes_of w.text)
+    (dark_first (classes_of u.name) [] kind.Function (ap (λ s. ended s []) (url_state u.name p.0)) refl)
+    (ap classes_of u.whole ∙ map-append class_of u.name u.inside)
 
 pub dark_begins : (w : Word) (a : List ℕ) → StaysFirst w a → is_white w.kind ≡ false → (x : Class) × (t : List Class) × (classes_of w.text ≡ x ∷ t) × (has white x ≡ false)
 dark_begins w a f h =
@@ -173,7 +179,7 @@ dark_begins w a f h =
       | inr u ↦ url_dark w a u
     ]
 
-none_white : (x : Class) (t : List Class) → has white x ≡ false → not (begins white (x ∷ t)) ≡ true
+pub none_white : (x : Class) (t : List Class) → has white x ≡ false → not (begins white (x ∷ t)) ≡ true
 none_white x t h = refuted_white (each_class (λ c. has white c || not (begins white (c ∷ t))) refl x)
   where
     refuted_white : (has white x || not (begins white (x ∷ t))) ≡ true → not (begins white (x ∷ t)) ≡ true

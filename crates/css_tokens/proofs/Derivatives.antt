@@ -1,19 +1,21 @@
 -- What is left of a pattern fits what is left of a text.
-use Rattle.std.proofs.Common.{◌≡◌, List, [], ◌∷◌, Bool, true, false, ◌||◌, ◌&&◌, inl, inr, refl, sym, ap, ap₂, ◌∙◌, subst, eqb-true, get_or, not, Option, Some, if◌then◌else◌}
+use Rattle.std.proofs.Common.{◌≡◌, ℕ, suc, zero, nat_eq, List, [], ◌∷◌, Bool, true, false, ◌||◌, ◌&&◌, inl, inr, refl, sym, ap, ap₂, ◌∙◌, subst, eqb-true, get_or, not, Option, Some, if◌then◌else◌}
 use Rattle.std.proofs.lemmas.Bool.{cases_Bool, and_parts, or_cases}
 use Rattle.std.proofs.Math.Path.{fun_ext}
 use Rattle.css_tokens.specs.declared.class.Class.{Class}
 use Rattle.css_tokens.specs.declared.class.Class.TheVariants as class
 use Rattle.css_tokens.specs.declared.kind.Kind.{Kind}
 use Rattle.css_tokens.specs.Characters.{has, is_class, place_of, classes, in_text}
-use Rattle.css_tokens.specs.Patterns.{Pattern, Never, Empty, One, Many, Either, Then, Closed, fits, any_cut}
+use Rattle.css_tokens.specs.Patterns.{Pattern, Never, Empty, One, Many, Either, Then, Closed, Star, UpTo, fits, any_cut, any_cuts, is_repeated, is_up_to}
 use Rattle.css_tokens.specs.Kinds.{Row, begins, kind_of}
 use Rattle.css_tokens.specs.Private.Machine.{is_set, is_pattern, holds, is_never, is_blank, either, followed, derive, derived}
 
 -- each class stands in its place
 pub at_place : (c : Class) → get_or classes (place_of c) class.Blank ≡ c
 at_place class.Blank = refl
-at_place class.Newline = refl
+at_place class.Feed = refl
+at_place class.Return = refl
+at_place class.FormFeed = refl
 at_place class.DoubleQuote = refl
 at_place class.SingleQuote = refl
 at_place class.Hash = refl
@@ -24,6 +26,7 @@ at_place class.Dot = refl
 at_place class.Slash = refl
 at_place class.Digit = refl
 at_place class.Exponent = refl
+at_place class.Hex = refl
 at_place class.Letter = refl
 at_place class.Less = refl
 at_place class.Greater = refl
@@ -61,6 +64,8 @@ is_pattern-eq (Either p q) (Either r s) h = let e = and_parts (is_pattern p r) (
 is_pattern-eq (Then p q) (Then r s) h = let e = and_parts (is_pattern p r) (is_pattern q s) h in ap₂ Then (is_pattern-eq p r e.0) (is_pattern-eq q s e.1)
 is_pattern-eq (Closed true) (Closed true) h = refl
 is_pattern-eq (Closed false) (Closed false) h = refl
+is_pattern-eq (Star p) (Star q) h = ap Star (is_pattern-eq p q h)
+is_pattern-eq (UpTo n a) (UpTo m b) h = let e = and_parts (nat_eq n m) (is_set a b) h in ap₂ UpTo (eqb-true n m e.0) (is_set-eq a b e.1)
 is_pattern-eq p q h = cc
 
 is_never-eq : (p : Pattern) → is_never p ≡ true → p ≡ Never
@@ -91,6 +96,10 @@ or_right : (a b : Bool) → b ≡ true → (a || b) ≡ true
 or_right true b h = refl
 or_right false b h = h
 
+none_cut : (p q : Pattern) (s : List Class) → fits p [] ≡ true → fits q s ≡ true → any_cut (fits p) (fits q) s ≡ true
+none_cut p q [] h f = ap₂ ◌&&◌ h f
+none_cut p q (x ∷ s) h f = or_left (fits p [] && fits q (x ∷ s)) _ (ap₂ ◌&&◌ h f)
+
 holds-fits : (p q : Pattern) (s : List Class) → holds p q ≡ true → fits q s ≡ true → fits p s ≡ true
 holds-fits (Either a b) q s h f =
     elim (or_cases (is_pattern (Either a b) q) (holds a q || holds b q) h) [
@@ -104,8 +113,14 @@ holds-fits Never q s h f = same_fits Never q s h f
 holds-fits Empty q s h f = same_fits Empty q s h f
 holds-fits (One a) q s h f = same_fits (One a) q s h f
 holds-fits (Many a) q s h f = same_fits (Many a) q s h f
-holds-fits (Then a b) q s h f = same_fits (Then a b) q s h f
+holds-fits (Then a b) q s h f =
+    elim (or_cases (is_pattern (Then a b) q) (fits a [] && holds b q) h) [
+      | inl e ↦ same_fits (Then a b) q s e f
+      | inr e ↦ let p = and_parts (fits a []) (holds b q) e in none_cut a b s p.0 (holds-fits b q s p.1 f)
+    ]
 holds-fits (Closed b) q s h f = same_fits (Closed b) q s h f
+holds-fits (Star a) q s h f = same_fits (Star a) q s h f
+holds-fits (UpTo n a) q s h f = same_fits (UpTo n a) q s h f
 
 fits-either : (p q : Pattern) (s : List Class) → fits (either p q) s ≡ (fits p s || fits q s)
 fits-either p q s =
@@ -152,6 +167,15 @@ or_swap true false = refl
 or_swap false true = refl
 or_swap false false = refl
 
+and_true : (b : Bool) → b ≡ (b && true)
+and_true true = refl
+and_true false = refl
+
+-- the pieces behind the first are pieces again
+cuts-cut : (piece front : List Class → Bool) (s : List Class) → any_cuts piece front s ≡ any_cut front (is_repeated piece) s
+cuts-cut piece front [] = and_true (front [])
+cuts-cut piece front (x ∷ s) = ap (λ b. (front [] && any_cuts piece (λ t. piece (x ∷ t)) s) || b) (cuts-cut piece (λ t. front (x ∷ t)) s)
+
 -- the derivative fits what is left of the text
 pub fits-derive : (x : Class) (p : Pattern) (s : List Class) → fits p (x ∷ s) ≡ fits (derive x p) s
 fits-derive x Never s = refl
@@ -164,6 +188,9 @@ fits-derive x (Then p q) s =
     ∙ ap₂ ◌||◌ (ap (λ f. any_cut f (fits q) s) (fun_ext (fits-derive x p)) ∙ sym (fits-followed (derive x p) q s))
     (ap (λ b. fits p [] && b) (fits-derive x q s) ∙ fits-if (fits p []) (derive x q) s)
     ∙ sym (fits-either (followed (derive x p) q) (if fits p [] then derive x q else Never) s)
+fits-derive x (Star p) s = cuts-cut (fits p) (λ t. fits p (x ∷ t)) s ∙ ap (λ f. any_cut f (fits (Star p)) s) (fun_ext (fits-derive x p)) ∙ sym (fits-followed (derive x p) (Star p) s)
+fits-derive x (UpTo zero set) s = refl
+fits-derive x (UpTo (suc n) set) s = fits-if (has set x) (UpTo n set) s
 fits-derive x (Closed starred) s = fits-if_else (starred && is_class x class.Slash) (has in_text x) Empty (Closed (is_class x class.Star)) s
 
 never_fits : (p : Pattern) (s : List Class) → is_never p ≡ true → fits p s ≡ false

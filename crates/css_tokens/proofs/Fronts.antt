@@ -1,7 +1,7 @@
 -- The longest front of a text, by the steps of the machine.
 use Rattle.std.proofs.Common.{◌≡◌, ℕ, ◌+◌, ◌-◌, ◌<◌, List, [], ◌∷◌, length, take, drop, get_or, refl, sym, ap, ap₂, ◌∙◌, Option, Some, None, add-one, arith, drop-cons}
 use Rattle.std.proofs.Math.Path.{fun_ext}
-use Rattle.std.proofs.lemmas.List.{take_rest}
+use Rattle.std.proofs.lemmas.List.{drop_all, take_rest}
 use Rattle.std.specs.Option.{option_map}
 use Rattle.css_tokens.specs.declared.class.Class.{Class}
 use Rattle.css_tokens.specs.declared.kind.Kind.{Kind}
@@ -68,3 +68,17 @@ read_turn s s' text i best best' all here x h before e f g j =
 -- and where nothing can follow
 pub read_end : (s : State) (n : ℕ) (t : List Class) (best all : Option (Kind × ℕ)) → s ≡ state.Dead → all ≡ after_best n (longest_in s t) best → best ≡ all
 read_end s n t best all e h = sym (h ∙ ap (λ r. after_best n (longest_in r t) best) e ∙ read_dead n t best)
+
+-- and at the end of the text
+here_as : (n : ℕ) (o : Option Kind) (best : Option (Kind × ℕ)) → after_best n (option_map (as_front 0) o) best ≡ or_else (option_map (as_front n) o) best
+here_as n None best = refl
+here_as n (Some k) best = ap (λ (m : ℕ). Some (k, m)) (omega arith)
+
+pub read_last : (s : State) (text : List ℕ) (i : ℕ) (best all last : Option (Kind × ℕ)) (here : Option Kind) → i ≡ length text → all ≡ after_best i (longest_in s (classes_of (drop i text))) best → here ≡ ended s [] → last ≡ or_else (option_map (as_front (length text)) here) best → last ≡ all
+read_last s text i best all last here w h e f =
+    f ∙ ap (λ k. or_else (option_map (as_front (length text)) k) best) e
+    ∙ sym (h
+    ∙ ap (λ (n : ℕ). after_best n (longest_in s (classes_of (drop n text))) best) w
+    ∙ ap (λ t. after_best (length text) (longest_in s (classes_of t)) best) (drop_all (length text) text (omega arith))
+    ∙ ap (λ o. after_best (length text) o best) (longest_in-nil s)
+    ∙ here_as (length text) (ended s []) best)

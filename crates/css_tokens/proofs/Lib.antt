@@ -1,6 +1,11 @@
 pub mod Again
+pub mod Boundaries
+pub mod Checks
+pub mod ContentLemmas
+pub mod ContentSteps
 pub mod Derivatives
 pub mod Firsts
+pub mod Evens
 pub mod Fronts
 pub mod Kept
 pub mod MachineRows
@@ -12,6 +17,7 @@ pub mod Runs
 mod Scans
 pub mod Spelling
 pub mod Stays
+pub mod Takes
 pub mod AgainLemmas
 pub mod AgainWords
 pub mod AppendLemmas
@@ -34,4 +40,5 @@ pub mod NestLemmas
 pub mod PairingLemmas
 pub mod Beginnings
 pub mod ValueReads
+pub mod UrlNames
 pub mod Within

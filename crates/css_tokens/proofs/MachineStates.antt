@@ -8,6 +8,10 @@ use Rattle.css_tokens.specs.declared.kind.Kind.{Kind}
 use Rattle.css_tokens.specs.declared.kind.Kind.TheVariants as kind
 use Rattle.css_tokens.specs.declared.machine.State.{State}
 use Rattle.css_tokens.specs.declared.machine.State.TheVariants as state
+use Rattle.css_tokens.specs.declared.machine.Holder.{Holder}
+use Rattle.css_tokens.specs.declared.machine.Holder.TheVariants as holder
+use Rattle.css_tokens.specs.declared.machine.Escape.{Escape}
+use Rattle.css_tokens.specs.declared.machine.Escape.TheVariants as escape
 use Rattle.css_tokens.specs.Characters.{classes, place_of}
 use Rattle.css_tokens.specs.Kinds.{place_of_kind}
 use Rattle.css_tokens.proofs.Derivatives.{at_place}
@@ -101,12 +105,41 @@ plain_states =
     ∷ state.UrlAfter
     ∷ state.Dead ∷ []
 
+-- what an escape stands in, and how much of one is read
+abbrev pub holders : List Holder
+holders = holder.Name ∷ holder.AtName ∷ holder.HashName ∷ holder.Unit ∷ holder.DoubleQuoted ∷ holder.SingleQuoted ∷ holder.UrlText ∷ []
+
+abbrev pub escapes : List Escape
+escapes = escape.Begun ∷ escape.Hex1 ∷ escape.Hex2 ∷ escape.Hex3 ∷ escape.Hex4 ∷ escape.Hex5 ∷ escape.Hex6 ∷ escape.Return ∷ []
+
+each_holder : (P : Holder → Bool) → list_all P holders ≡ true → (i : Holder) → P i ≡ true
+each_holder P h holder.Name = each_at P holders 0 holder.Name (and_parts (P holder.Name) _ h).0 h
+each_holder P h holder.AtName = each_at P holders 1 holder.Name (and_parts (P holder.Name) _ h).0 h
+each_holder P h holder.HashName = each_at P holders 2 holder.Name (and_parts (P holder.Name) _ h).0 h
+each_holder P h holder.Unit = each_at P holders 3 holder.Name (and_parts (P holder.Name) _ h).0 h
+each_holder P h holder.DoubleQuoted = each_at P holders 4 holder.Name (and_parts (P holder.Name) _ h).0 h
+each_holder P h holder.SingleQuoted = each_at P holders 5 holder.Name (and_parts (P holder.Name) _ h).0 h
+each_holder P h holder.UrlText = each_at P holders 6 holder.Name (and_parts (P holder.Name) _ h).0 h
+
+each_escape : (P : Escape → Bool) → list_all P escapes ≡ true → (e : Escape) → P e ≡ true
+each_escape P h escape.Begun = each_at P escapes 0 escape.Begun (and_parts (P escape.Begun) _ h).0 h
+each_escape P h escape.Hex1 = each_at P escapes 1 escape.Begun (and_parts (P escape.Begun) _ h).0 h
+each_escape P h escape.Hex2 = each_at P escapes 2 escape.Begun (and_parts (P escape.Begun) _ h).0 h
+each_escape P h escape.Hex3 = each_at P escapes 3 escape.Begun (and_parts (P escape.Begun) _ h).0 h
+each_escape P h escape.Hex4 = each_at P escapes 4 escape.Begun (and_parts (P escape.Begun) _ h).0 h
+each_escape P h escape.Hex5 = each_at P escapes 5 escape.Begun (and_parts (P escape.Begun) _ h).0 h
+each_escape P h escape.Hex6 = each_at P escapes 6 escape.Begun (and_parts (P escape.Begun) _ h).0 h
+each_escape P h escape.Return = each_at P escapes 7 escape.Begun (and_parts (P escape.Begun) _ h).0 h
+
+abbrev pub all_escaped : (State → Bool) → Bool
+all_escaped P = list_all (λ i. list_all (λ e. P (state.Escaped i e)) escapes) holders
+
 abbrev pub all_ends : (State → Bool) → Bool
 all_ends P = list_all (λ k. P (state.End k)) kinds
 
 -- do all states pass?
 abbrev pub all_pass : (State → Bool) → Bool
-all_pass P = list_all P plain_states && all_ends P
+all_pass P = list_all P plain_states && (all_ends P && all_escaped P)
 
 plain_passes : (P : State → Bool) → all_pass P ≡ true → (n : ℕ) → P (get_or plain_states n state.Start) ≡ true
 plain_passes P h n =
@@ -151,7 +184,10 @@ each_state P h state.UrlWhite = plain_passes P h 32
 each_state P h state.UrlText = plain_passes P h 33
 each_state P h state.UrlAfter = plain_passes P h 34
 each_state P h state.Dead = plain_passes P h 35
-each_state P h (state.End k) = each_kind (λ j. P (state.End j)) (and_parts (list_all P plain_states) (all_ends P) h).1 k
+each_state P h (state.Escaped i e) =
+    let p = and_parts (all_ends P) (all_escaped P) (and_parts (list_all P plain_states) _ h).1 in
+    each_escape (λ f. P (state.Escaped i f)) (each_holder (λ j. list_all (λ f. P (state.Escaped j f)) escapes) p.1 i) e
+each_state P h (state.End k) = each_kind (λ j. P (state.End j)) (and_parts (all_ends P) (all_escaped P) (and_parts (list_all P plain_states) _ h).1).0 k
 
 -- and of the steps from them
 pub each_step : (P : State → Class → Bool) → all_pass (λ s. list_all (P s) classes) ≡ true → (s : State) (c : Class) → P s c ≡ true

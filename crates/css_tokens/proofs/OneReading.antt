@@ -2,8 +2,7 @@
 use Rattle.std.proofs.Common.{◌≡◌, ℕ, suc, zero, ◌+◌, ◌<◌, List, [], ◌∷◌, ◌++◌, length, take, drop, get_or, Bool, true, false, not, ◌&&◌, inl, inr, refl, sym, ap, ap₂, ◌∙◌, subst, Option, Some, None, MatchOption, arith, append-nil, le_of_suc-le-suc, add-one, add_comm}
 use Rattle.std.proofs.Math.Seq.{take-add}
 use Rattle.std.proofs.lemmas.Bool.{cases_Bool, and_parts, and_from, both_ways}
-use Rattle.std.proofs.lemmas.List.Quantifiers.{position-Some}
-use Rattle.std.specs.List.{list_all, position}
+use Rattle.std.specs.List.{list_all}
 use Rattle.std.specs.Option.{option_map}
 use Rattle.css_tokens.specs.declared.class.Class.TheVariants as class
 use Rattle.css_tokens.specs.declared.kind.Kind.{Kind}
@@ -13,8 +12,9 @@ use Rattle.css_tokens.specs.Characters.{class_of}
 use Rattle.css_tokens.specs.Kinds.{table, url_table}
 use Rattle.css_tokens.specs.Private.Machine.{next, ended}
 use Rattle.css_tokens.specs.Piece.{Word, spelled}
-use Rattle.css_tokens.specs.Tokens.{First, ReadsTo, Reads, Stops, StopsAt, StopsReading, first_front, front_of, url_rule, word, longer, as_front, or_else, classes_of, is_refused, is_url, quote_follows, is_control}
+use Rattle.css_tokens.specs.Tokens.{First, ReadsTo, Reads, Stops, StopsAt, StopsReading, after_mark, bad_place, mark_length, first_front, front_of, url_rule, word, longer, as_front, or_else, classes_of, is_refused, is_url, quote_follows, is_control}
 use Rattle.css_tokens.proofs.Derivatives.{is_class-eq}
+use Rattle.css_tokens.proofs.MachineStates.{is_dead, is_dead-eq, each_state}
 use Rattle.css_tokens.proofs.Fronts.{longest_in, longest_in-step, longest_in-dead}
 use Rattle.css_tokens.proofs.Reading.{mapped, chained, reads_whole}
 
@@ -65,15 +65,14 @@ places_one t (Some q) o p h k = h ∙ sym k
 places_one t None o p h k = h.4 ∙ ap (λ ws. length (spelled ws)) (stops_one t h.0 k.0 h.1 k.1 h.2 h.3 k.2 k.3) ∙ sym k.4
 
 pub stops_at_one : (t : List ℕ) (o p : ℕ) → StopsAt t o → StopsAt t p → o ≡ p
-stops_at_one t o p h k = places_one t (position is_control t) o p h k
+stops_at_one t o p h k = h.2 ∙ ap (λ (n : ℕ). mark_length t + n) (places_one (after_mark t) (bad_place (after_mark t)) h.0 k.0 h.1 k.1) ∙ sym k.2
 
 -- no token has a control character
 abbrev pub is_clean : List ℕ → Bool
 is_clean t = list_all (λ b. not (is_control b)) t
 
 dead_control : (s : State) → next s class.Control ≡ state.Dead
-dead_control state.Start = refl
-dead_control s = refl
+dead_control s = is_dead-eq (next s class.Control) (each_state (λ r. is_dead (next r class.Control)) refl s)
 
 same_inside : {A : Type 0} (a b : A) → Some a ≡ Some b → a ≡ b
 same_inside a b h = cc
@@ -122,22 +121,13 @@ first_clean t w h =
     subst (λ (v : Word). is_clean v.text ≡ true) m.2
     (url_clean t c.0 m.0 (longest_clean state.Start t c.0.0 c.0.1 c.1) c.2)
 
-words_clean : (t : List ℕ) (ws : List Word) (r : List ℕ) → ReadsTo t ws r → is_clean (spelled ws) ≡ true
+pub words_clean : (t : List ℕ) (ws : List Word) (r : List ℕ) → ReadsTo t ws r → is_clean (spelled ws) ≡ true
 words_clean t [] r h = refl
 words_clean t (w ∷ ws) r h = clean_append w.text (spelled ws) (first_clean t w h.0) (words_clean (drop (length w.text) t) ws r h.2)
 
-clean_at : (t : List ℕ) (i : ℕ) → is_clean t ≡ true → i < length t → is_control (get_or t i 0) ≡ true → ⊥
-clean_at [] i h l c = absurd (omega arith)
-clean_at (b ∷ t) zero h l c = both_ways (not (is_control b)) (ap not c) (and_parts (not (is_control b)) (is_clean t) h).0
-clean_at (b ∷ t) (suc i) h l c = clean_at t i (and_parts (not (is_control b)) (is_clean t) h).1 (le_of_suc-le-suc l) c
-
-both_never : (t : List ℕ) (ws : List Word) (r : Option ℕ) (o : ℕ) → position is_control t ≡ r → Reads t ws → MatchOption r (StopsReading t o) (λ place. o ≡ place) → ⊥
-both_never t ws (Some i) o e h k =
-    let p = position-Some is_control t i 0 e in
-    let w : t ≡ spelled ws = reads_whole t ws [] h ∙ append-nil (spelled ws) in
-    clean_at t i (subst (λ u. is_clean u ≡ true) (sym w) (words_clean t ws [] h)) p.0 p.1
-both_never t ws None o e h k = reads_not_stops t ws k.0 k.1 h k.2 k.3
-
 -- a text that reads has no fault
 pub reads_or_stops : (t : List ℕ) (ws : List Word) (o : ℕ) → Reads t ws → StopsAt t o → ⊥
-reads_or_stops t ws o h k = both_never t ws (position is_control t) o refl h k
+reads_or_stops t ws o h k =
+    let u = after_mark t in
+    let s : StopsReading u k.0 = subst (λ r. MatchOption r (StopsReading u k.0) (λ place. k.0 ≡ place)) h.0 k.1 in
+    reads_not_stops u ws s.0 s.1 h.1 s.2 s.3

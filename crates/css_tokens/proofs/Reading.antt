@@ -3,10 +3,7 @@ use Rattle.std.proofs.Common.{◌≡◌, ℕ, suc, zero, ◌+◌, ◌-◌, ◌^�
 use Rattle.std.proofs.lemmas.Bool.{cases_Bool, and_parts}
 use Rattle.std.proofs.lemmas.List.{map_push}
 use Rattle.std.proofs.lemmas.List.Concat.{flat_map-append}
-use Rattle.std.proofs.lemmas.Str.Ascii.{IsAscii-cons, IsAscii-nil}
-use Rattle.std.proofs.lemmas.Str.{IsUtf8-from_ascii}
-use Rattle.std.specs.Str.{IsAscii, IsUtf8}
-use Rattle.std.specs.List.{position}
+use Rattle.std.specs.Str.{IsCharBoundary}
 use Rattle.std.specs.Option.{option_map, option_and_then}
 use Rattle.css_tokens.specs.declared.class.Class.{Class}
 use Rattle.css_tokens.specs.declared.kind.Kind.{Kind}
@@ -14,9 +11,9 @@ use Rattle.css_tokens.specs.declared.machine.State.TheVariants as state
 use Rattle.css_tokens.specs.Kinds.{table, url_table}
 use Rattle.css_tokens.specs.Private.Machine.{next}
 use Rattle.css_tokens.specs.Piece.{Piece, Word, word_of, spelled}
-use Rattle.css_tokens.specs.Tokens.{First, Reads, ReadsTo, IsPlaced, first_front, front_of, url_rule, word, longer, or_else, classes_of, is_refused, is_plain, is_url, quote_follows, Stops, StopsAt, StopsReading, is_control}
+use Rattle.css_tokens.specs.Tokens.{First, Reads, ReadsTo, IsPlaced, first_front, front_of, url_rule, word, longer, or_else, classes_of, is_refused, is_url, quote_follows, after_mark, bad_place, mark_length, Stops, StopsAt, StopsBehind, StopsReading}
 use Rattle.css_tokens.specs.Private.Reading.{Begins, IsReadingFault}
-use Rattle.css_tokens.specs.Faults.{IsFault}
+use Rattle.css_tokens.specs.Faults.{IsFault, RefusesAt}
 use Rattle.css_tokens.specs.declared.reader.TokenFault.{TokenFault}
 use Rattle.css_tokens.specs.declared.reader.TokenFault.TheVariants.{Syntax, Memory}
 use Rattle.css_tokens.proofs.Fronts.{longest_in, longest_in-nil, longest_in-step}
@@ -98,28 +95,17 @@ pub placed_more : (at : ℕ) (ps : List Piece) (p : Piece) → IsPlaced at ps �
 placed_more at [] p h e = (e ∙ omega arith, tt)
 placed_more at (q ∷ ps) p h e = (h.0, placed_more (at + length q.text) ps p h.1 (e ∙ omega (arith, size-cons q ps)))
 
--- plain text is ASCII, and so is what is left of it
-pub plain_ascii : (text : List ℕ) → is_plain text ≡ true → IsAscii text
-plain_ascii [] h = IsAscii-nil
-plain_ascii (b ∷ text) h =
-    let p = and_parts (nat_lt b 128 && not (nat_eq b 92)) (is_plain text) h in
-    IsAscii-cons b text (ltb-true b 128 (and_parts (nat_lt b 128) (not (nat_eq b 92)) p.0).0) (plain_ascii text p.1)
-
-pub plain_drop : (n : ℕ) (text : List ℕ) → is_plain text ≡ true → is_plain (drop n text) ≡ true
-plain_drop zero text h = h
-plain_drop (suc n) [] h = h
-plain_drop (suc n) (b ∷ text) h = plain_drop n text (and_parts (nat_lt b 128 && not (nat_eq b 92)) (is_plain text) h).1
-
 abbrev word_from : Kind → List ℕ → Word
 word_from k t = record { kind = k; text = t }
 
 -- what the first front of a text says
-pub begins_by : (text : List ℕ) (k : Kind) (n : ℕ) (p : Piece) → Some (k, n) ≡ first_front text → n ≤ length text → is_refused k ≡ false → p.kind ≡ k → p.text ≡ take n text → length p.text ≡ n → Begins text p
-begins_by text k n p h w r e f g = record {
+pub begins_by : (text : List ℕ) (k : Kind) (n : ℕ) (p : Piece) → Some (k, n) ≡ first_front text → n ≤ length text → is_refused k ≡ false → p.kind ≡ k → p.text ≡ take n text → length p.text ≡ n → IsCharBoundary text n → Begins text p
+begins_by text k n p h w r e f g b = record {
   first = ap (option_map (word text)) (sym h) ∙ ap Some (ap₂ (λ (a : Kind) (t : List ℕ). word_from a t) (sym e) (sym f));
   read = ap is_refused e ∙ r;
   whole = omega arith;
   some = let s = first_positive text (k, n) (sym h) in omega (arith, s);
+  cut = subst (IsCharBoundary text) (sym g) b;
 }
 
 pub stops_by : (text : List ℕ) (k : Kind) (n : ℕ) → Some (k, n) ≡ first_front text → is_refused k ≡ true → Stops text
@@ -129,37 +115,52 @@ stops_by text k n h r = inr (word text (k, n), ap (option_map (word text)) (sym 
 pub reads_size : (text : List ℕ) (ps : List Piece) (rest : List ℕ) → ReadsTo text (map word_of ps) rest → size ps + length rest ≡ length text
 reads_size text ps rest h = sym (ap length (reads_whole text (map word_of ps) rest h) ∙ length-append (spelled (map word_of ps)) rest)
 
-pub turn_fits : (text : List ℕ) (ps : List Piece) (rest : List ℕ) (p : Piece) (at n : ℕ) → length text < 2 ^ 32 - 1 → ReadsTo text (map word_of ps) rest → Begins rest p → at ≡ size ps → n ≡ length p.text → at + n < 2 ^ 32
-turn_fits text ps rest p at n s h b e f = let r = reads_size text ps rest h in let w = b.whole in omega arith
+pub turn_fits : (start : ℕ) (text : List ℕ) (ps : List Piece) (rest : List ℕ) (p : Piece) (at n : ℕ) → start + length text < 2 ^ 32 - 1 → ReadsTo text (map word_of ps) rest → Begins rest p → at ≡ start + size ps → n ≡ length p.text → at + n < 2 ^ 32
+turn_fits start text ps rest p at n s h b e f = let r = reads_size text ps rest h in let w = b.whole in omega arith
 
 pub turn_reads : (text : List ℕ) (ps qs : List Piece) (rest left : List ℕ) (p : Piece) (n : ℕ) → ReadsTo text (map word_of ps) rest → Begins rest p → qs ≡ ps ++ p ∷ [] → n ≡ length p.text → left ≡ drop n rest → ReadsTo text (map word_of qs) left
 turn_reads text ps qs rest left p n h b e f g =
     subst (λ r. ReadsTo text (map word_of qs) r) (sym (g ∙ ap (λ m. drop m rest) f))
     (subst (λ ts. ReadsTo text (map word_of ts) (drop (length p.text) rest)) (sym e) (reads_more_pieces text ps rest p h b.first b.read))
 
-pub turn_placed : (ps qs : List Piece) (p : Piece) (at : ℕ) → IsPlaced 0 ps → at ≡ size ps → p.at ≡ at → qs ≡ ps ++ p ∷ [] → IsPlaced 0 qs
-turn_placed ps qs p at h s e f = subst (λ ts. IsPlaced 0 ts) (sym f) (placed_more 0 ps p h (e ∙ s ∙ omega arith))
+pub turn_placed : (start : ℕ) (ps qs : List Piece) (p : Piece) (at : ℕ) → IsPlaced start ps → at ≡ start + size ps → p.at ≡ at → qs ≡ ps ++ p ∷ [] → IsPlaced start qs
+turn_placed start ps qs p at h s e f = subst (λ ts. IsPlaced start ts) (sym f) (placed_more start ps p h (e ∙ s))
 
-pub turn_size : (ps qs : List Piece) (p : Piece) (at n : ℕ) → at ≡ size ps → n ≡ length p.text → qs ≡ ps ++ p ∷ [] → at + n ≡ size qs
-turn_size ps qs p at n s f e = ap₂ ◌+◌ s f ∙ sym (size-push ps p) ∙ ap size (sym e)
+pub turn_size : (start : ℕ) (ps qs : List Piece) (p : Piece) (at n : ℕ) → at ≡ start + size ps → n ≡ length p.text → qs ≡ ps ++ p ∷ [] → at + n ≡ start + size qs
+turn_size start ps qs p at n s f e = let z = size-push ps p in let y = ap size e in omega arith
 
-pub stops_at_control : (text : List ℕ) (o : ℕ) → Some o ≡ position is_control text → StopsAt text o
-stops_at_control text o e = subst (λ r. MatchOption r (StopsReading text o) (λ place. o ≡ place)) e refl
+-- Faults of the whole text.
 
-pub stops_in_reading : (text : List ℕ) (o : ℕ) → None ≡ position is_control text → StopsReading text o → StopsAt text o
-stops_in_reading text o e h = subst (λ r. MatchOption r (StopsReading text o) (λ place. o ≡ place)) e h
+pub stops_at_bad : (text : List ℕ) (mark at o : ℕ) → mark ≡ mark_length text → bad_place (drop mark text) ≡ Some at → o ≡ mark + at → StopsAt text o
+stops_at_bad text mark at o e h f = (
+  at,
+  subst (λ (m : ℕ). StopsBehind (drop m text) at) e (subst (λ r. MatchOption r (StopsReading (drop mark text) at) (λ place. at ≡ place)) (sym h) refl),
+  f ∙ ap (λ (m : ℕ). m + at) e,
+)
 
-fault_of : (text : List ℕ) (e : TokenFault) → None ≡ position is_control text → IsReadingFault text e → IsFault text e
-fault_of text (Syntax o) n h = stops_in_reading text o n h
-fault_of text Memory n h = tt
+fault_of : (text read : List ℕ) (mark : ℕ) (e : TokenFault) → mark ≡ mark_length text → read ≡ drop mark text → bad_place (drop mark text) ≡ None → IsReadingFault mark read e → IsFault text e
+fault_of text read mark (Syntax o) m f n h =
+    let s : StopsBehind (drop mark text) h.0 = subst (λ r. MatchOption r (StopsReading (drop mark text) h.0) (λ place. h.0 ≡ place)) (sym n) (subst (λ t. StopsReading t h.0) f h.1) in
+    (h.0, subst (λ (k : ℕ). StopsBehind (drop k text) h.0) m s, h.2 ∙ ap (λ (k : ℕ). k + h.0) m)
+fault_of text read mark Memory m f n h = tt
 
-pub faults_of : {A : Type 0} (text read : List ℕ) (r : Result A TokenFault) → None ≡ position is_control text → read ≡ text → IfErr r (λ e. IsReadingFault read e) → IfErr r (λ e. IsFault text e)
-faults_of text read (Ok a) n f h = tt
-faults_of text read (Err e) n f h = fault_of text e n (subst (λ t. IsReadingFault t e) f h)
+module _ (text read : List ℕ) (mark : ℕ) (is_mark : mark ≡ mark_length text) (is_read : read ≡ drop mark text) (is_good : bad_place (drop mark text) ≡ None) where
+  pub faults_of : {A : Type 0} (r : Result A TokenFault) → IfErr r (λ e. IsReadingFault mark read e) → IfErr r (λ e. IsFault text e)
+  faults_of (Ok a) h = tt
+  faults_of (Err e) h = fault_of text read mark e is_mark is_read is_good h
 
-pub whole_of : (text read : List ℕ) (r : Result (List Piece) TokenFault) → read ≡ text → IfOk r (λ ts. Reads read (map word_of ts)) → IfOk r (λ ts. spelled (map word_of ts) ≡ text)
-whole_of text read (Ok ts) f h = sym (reads_whole read (map word_of ts) [] h ∙ append-nil (spelled (map word_of ts))) ∙ f
-whole_of text read (Err e) f h = tt
+  pub reads_of : (r : Result (List Piece) TokenFault) → IfOk r (λ ts. ReadsTo read (map word_of ts) []) → IfOk r (λ ts. Reads text (map word_of ts))
+  reads_of (Ok ts) h =
+      let e : read ≡ after_mark text = is_read ∙ ap (λ (k : ℕ). drop k text) is_mark in
+      (ap (λ (k : ℕ). bad_place (drop k text)) (sym is_mark) ∙ is_good, subst (λ t. ReadsTo t (map word_of ts) []) e h)
+  reads_of (Err e) h = tt
 
-pub plain_utf8 : (text : List ℕ) → IsTrue (is_plain text) → IsUtf8 text
-plain_utf8 text h = IsUtf8-from_ascii text (plain_ascii text h)
+  pub whole_of : (r : Result (List Piece) TokenFault) → IfOk r (λ ts. ReadsTo read (map word_of ts) []) → IfOk r (λ ts. spelled (map word_of ts) ≡ after_mark text)
+  whole_of (Ok ts) h = sym (reads_whole read (map word_of ts) [] h ∙ append-nil (spelled (map word_of ts))) ∙ is_read ∙ ap (λ (k : ℕ). drop k text) is_mark
+  whole_of (Err e) h = tt
+
+-- a fault that a text has is the one that is answered
+pub named_by : (text : List ℕ) (r : Result (List Piece) TokenFault) → ((ws : List Word) (o : ℕ) → Reads text ws → StopsAt text o → ⊥) → ((o p : ℕ) → StopsAt text o → StopsAt text p → o ≡ p) → IfOk r (λ ts. Reads text (map word_of ts)) → IfErr r (λ e. IsFault text e) → (o : ℕ) → StopsAt text o → RefusesAt r o
+named_by text (Ok ts) never one h k o s = never (map word_of ts) o h s
+named_by text (Err (Syntax p)) never one h k o s = one p o k s
+named_by text (Err Memory) never one h k o s = tt

@@ -1,10 +1,9 @@
 -- Every text has a reading, or a place where it has none.
 use Rattle.std.proofs.Common.{◌≡◌, ℕ, zero, suc, ◌+◌, ◌≤◌, ◌⊎◌, inl, inr, List, [], ◌∷◌, length, drop, Bool, true, false, Option, Some, None, MatchOption, refl, ap, ◌∙◌, subst, arith, length-append}
-use Rattle.std.specs.List.{position}
 use Rattle.std.specs.Option.{option_map}
 use Rattle.css_tokens.specs.declared.kind.Kind.{Kind}
 use Rattle.css_tokens.specs.Piece.{Word, spelled}
-use Rattle.css_tokens.specs.Tokens.{First, ReadsTo, Reads, Stops, StopsAt, StopsReading, first_front, word, is_refused, is_control}
+use Rattle.css_tokens.specs.Tokens.{First, ReadsTo, Reads, Stops, StopsAt, StopsReading, after_mark, bad_place, mark_length, first_front, word, is_refused}
 use Rattle.css_tokens.proofs.Reading.{first_front-whole}
 use Rattle.css_tokens.proofs.Within.{first_some}
 
@@ -45,7 +44,7 @@ way zero (b ∷ text) l = absurd (omega arith)
 way (suc n) (b ∷ text) l = by_front b text (first_front (b ∷ text)) refl (λ w f. way n (drop (length w.text) (b ∷ text)) (first_shorter (b ∷ text) w n f l))
 
 abbrev ReadsOr : List ℕ → (ℕ → Type 0) → Type 0
-ReadsOr text StopsIn = ((words : List Word) × Reads text words) ⊎ ((o : ℕ) × StopsIn o)
+ReadsOr text StopsIn = ((words : List Word) × ReadsTo text words []) ⊎ ((o : ℕ) × StopsIn o)
 
 by_way : (text : List ℕ) → Way text → ReadsOr text (StopsReading text)
 by_way text way = elim way.last [
@@ -53,10 +52,19 @@ by_way text way = elim way.last [
   | inr s ↦ inr (length (spelled way.words), (way.words, way.rest, way.reads, s, refl))
 ]
 
-by_control : (text : List ℕ) (control : Option ℕ) → ReadsOr text (StopsReading text) → ReadsOr text (λ o. MatchOption control (StopsReading text o) (λ place. o ≡ place))
-by_control text (Some place) h = inr (place, refl)
-by_control text None h = h
+abbrev GoodOr : List ℕ → Option ℕ → Type 0
+GoodOr text bad = ((words : List Word) × (bad ≡ None) × ReadsTo text words []) ⊎ ((o : ℕ) × MatchOption bad (StopsReading text o) (λ place. o ≡ place))
+
+by_bad : (text : List ℕ) (bad : Option ℕ) → ReadsOr text (StopsReading text) → GoodOr text bad
+by_bad text (Some place) h = inr (place, refl)
+by_bad text None (inl h) = inl (h.0, refl, h.1)
+by_bad text None (inr h) = inr h
 
 -- every text reads, or has a place where it does not
-pub reads_or_stops_somewhere : (text : List ℕ) → ReadsOr text (StopsAt text)
-reads_or_stops_somewhere text = by_control text (position is_control text) (by_way text (way (length text) text (omega arith)))
+pub reads_or_stops_somewhere : (text : List ℕ) → ((words : List Word) × Reads text words) ⊎ ((o : ℕ) × StopsAt text o)
+reads_or_stops_somewhere text =
+    let t = after_mark text in
+    elim (by_bad t (bad_place t) (by_way t (way (length t) t (omega arith)))) [
+      | inl h ↦ inl (h.0, (h.1, h.2))
+      | inr h ↦ inr (mark_length text + h.0, (h.0, h.1, refl))
+    ]

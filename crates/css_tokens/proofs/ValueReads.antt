@@ -1,7 +1,7 @@
 -- The printed text of a value reads as its words.
-use Rattle.std.proofs.Common.{◌≡◌, ℕ, List, [], ◌∷◌, ◌++◌, length, drop, Bool, true, false, not, ◌&&◌, cond, refl, sym, inl, inr, ap, ◌∙◌, subst, Some, arith, append_assoc, length-append, codes}
+use Rattle.std.proofs.Common.{◌≡◌, ℕ, List, [], ◌∷◌, ◌++◌, length, drop, Bool, true, false, not, ◌&&◌, ◌||◌, nat_eq, cond, refl, sym, inl, inr, ap, ◌∙◌, subst, Some, arith, append_assoc, length-append, codes}
 use Rattle.std.proofs.Math.Seq.{drop-append_seam}
-use Rattle.std.proofs.lemmas.Bool.{cases_Bool, and_parts, both_ways, not-false}
+use Rattle.std.proofs.lemmas.Bool.{cases_Bool, and_parts, both_ways, eqb-true, not-false, not-true}
 use Rattle.std.proofs.lemmas.List.{append_cancel_left, append_cancel_right, map-append}
 use Rattle.std.proofs.lemmas.List.Concat.{flat_map-append}
 use Rattle.std.specs.List.{list_all}
@@ -15,19 +15,24 @@ use Rattle.css_tokens.specs.declared.machine.State.TheVariants as state
 use Rattle.css_tokens.specs.Characters.{class_of, has, white}
 use Rattle.css_tokens.specs.Private.Machine.{ended}
 use Rattle.css_tokens.specs.Piece.{Piece, Word, word_of, spelled}
-use Rattle.css_tokens.specs.Tokens.{First, ReadsTo, classes_of, is_refused, is_url, quote_follows, spells}
+use Rattle.css_tokens.specs.Tokens.{First, ReadsTo, classes_of, is_refused, is_url, names, quote_follows, spells}
 use Rattle.css_tokens.specs.Trees.{is_text, opens, closing, words_all, is_formed, is_formed-Single, is_formed-Block, all_formed}
-use Rattle.css_tokens.specs.Again.{StaysFirst, Alike, is_stop, is_solid}
-use Rattle.css_tokens.specs.Values.{is_white, is_gap, short_word, value_words, value_text}
-use Rattle.css_tokens.proofs.Again.{keeps, ended_mark, url_found}
+use Rattle.css_tokens.specs.Again.{StaysFirst, Alike, begins_none, is_odd, is_stop, is_solid, takes}
+use Rattle.css_tokens.specs.Kinds.{begins, kind_of, table}
+use Rattle.css_tokens.specs.Values.{is_white, is_gap, takes_space, short_word, value_words, value_text}
+use Rattle.css_tokens.proofs.Again.{keeps, ended_mark}
+use Rattle.css_tokens.proofs.UrlNames.{url_found}
 use Rattle.css_tokens.proofs.AgainLemmas.{words_of, words_of-Single}
-use Rattle.css_tokens.proofs.Beginnings.{Quotes, is_dark, quotes_front, quotes_behind, gap_quotes, gap_stops, dark_none, url_ended}
+use Rattle.css_tokens.proofs.Beginnings.{Quotes, is_dark, quotes_front, quotes_behind, gap_quotes, gap_stops, dark_begins, dark_none, none_white, url_ended}
 use Rattle.css_tokens.proofs.Firsts.{AsUrl, first_cases}
 use Rattle.css_tokens.proofs.GapLemmas.{not_white, is_gap-kept}
 use Rattle.css_tokens.proofs.PrintedAgain.{IsShort, short-short}
 use Rattle.css_tokens.proofs.Rebuilt.{both}
 use Rattle.css_tokens.proofs.Runs.{run, same_inside}
-use Rattle.css_tokens.proofs.Spelling.{url_length, first_spells}
+use Rattle.css_tokens.proofs.Evens.{first_even, odd-append}
+use Rattle.css_tokens.proofs.Fronts.{longest_in}
+use Rattle.css_tokens.proofs.MachineStates.{implied, each_class}
+use Rattle.css_tokens.proofs.Spelling.{first_spells}
 use Rattle.css_tokens.proofs.Stays.{space_stays}
 use Rattle.css_tokens.proofs.TreeInduction.{Each, by_trees}
 use Rattle.css_tokens.proofs.ValueLemmas.{space, comment}
@@ -88,7 +93,9 @@ nil_of (x ∷ l) h = absurd (omega arith)
 never_url : (w : Word) (a : List ℕ) (u : AsUrl w a) → is_url w.text ≡ true → ⊥
 never_url w a u h =
     let p = and_parts (is_url u.name) _ u.ruled in
-    let l : length u.inside ≡ 0 = omega (arith, url_length u.name p.0, url_length w.text h, length-append u.name u.inside, ap length u.whole) in
+    let e : longest_in state.Start (classes_of (w.text ++ a)) ≡ Some (kind.Function, length u.name) = ap (λ t. longest_in state.Start (classes_of t)) (ap (λ t. t ++ a) u.whole ∙ append_assoc u.name u.inside a) ∙ url_found u.name (u.inside ++ a) p.0 in
+    let n : length w.text ≡ length u.name = ap (λ (x : Kind × ℕ). x.1) (same_inside (kind.Function, length w.text) (kind.Function, length u.name) (sym (url_found w.text a h) ∙ e)) in
+    let l : length u.inside ≡ 0 = omega (arith, n, length-append u.name u.inside, ap length u.whole) in
     not_open w.kind (classes_of a) (subst (λ (t : List ℕ). ended (run state.UrlStart (classes_of t)) (classes_of a) ≡ Some w.kind) (nil_of u.inside l) (url_ended w a u))
   where
     not_open : (k : Kind) (after : List Class) → ended state.UrlStart after ≡ Some k → ⊥
@@ -182,34 +189,65 @@ record InValue (s : List ℕ) (t : List ℕ) (w : Word) : Type 0 where
   pub first : First t w
   pub read : is_refused w.kind ≡ false
   pub quote : is_url w.text ≡ true → (u : List ℕ) × (t ≡ w.text ++ (u ++ s)) × Quotes u
+  pub closed : takes_space w ≡ false
 
-in_value : (ws : List Word) (s : List ℕ) → Closes ws → Chain ReadFirst ws s → Chain (InValue s) ws s
-in_value [] s c h = tt
-in_value (w ∷ ws) s c h =
+abbrev TakesNone : List Word → Bool
+TakesNone ws = list_all (λ (w : Word). not (takes_space w)) ws
+
+in_value : (ws : List Word) (s : List ℕ) → TakesNone ws ≡ true → Closes ws → Chain ReadFirst ws s → Chain (InValue s) ws s
+in_value [] s n c h = tt
+in_value (w ∷ ws) s n c h =
+    let p = and_parts (not (takes_space w)) (TakesNone ws) n in
     let here : InValue s (w.text ++ (spelled ws ++ s)) w = record {
       first = h.0.0;
       read = h.0.1;
       quote = λ u. let k = url_word w (spelled ws ++ s) h.0.0 u in (spelled ws, refl, quotes_front (spelled ws) s (c.0 k.0) k.1);
+      closed = not-true (takes_space w) p.0;
     } in
-    (here, in_value ws s c.1 h.1)
+    (here, in_value ws s p.1 c.1 h.1)
+
+-- White space at the start of a printed text is a space.
+abbrev is_spaced : List ℕ → Bool
+is_spaced [] = true
+is_spaced (b ∷ t) = not (has white (class_of b)) || nat_eq b 32
+
+dark_spaced : (t : List ℕ) → begins_none white t ≡ true → is_spaced t ≡ true
+dark_spaced [] h = refl
+dark_spaced (b ∷ t) h = ap (λ x. x || nat_eq b 32) (spaced_class (class_of b) (classes_of t) h)
+  where
+    spaced_class : (x : Class) (t : List Class) → not (begins white (x ∷ t)) ≡ true → not (has white x) ≡ true
+    spaced_class x t h = implied (not (begins white (x ∷ t))) (not (has white x)) h (each_class (λ c. not (not (begins white (c ∷ t))) || not (has white c)) refl x)
+
+-- and that a word does not take
+space_only : (w : Word) (b : List ℕ) → is_gap w.kind ≡ false → takes_space w ≡ false → is_spaced b ≡ true → takes w b ≡ false
+space_only w [] g n h = refl
+space_only w (c ∷ b) g n h =
+    elim (cases_Bool (has white (class_of c))) [
+      | inr e ↦ ap (λ x. x && names w.kind (kind_of table (classes_of (w.text ++ c ∷ [])) [])) e
+      | inl e ↦
+          let i = eqb-true c 32 (sym (ap (λ x. not x || nat_eq c 32) e) ∙ h) in
+          subst (λ (x : ℕ). takes w (x ∷ b) ≡ false) (sym i) (sym (ap (λ x. not x && takes w (codes " ")) g) ∙ n)
+    ]
 
 -- The old text from here on and the new one are alike, and a quote that comes in the value's own part comes in the new one.
 record AlikeIn (s : List ℕ) (a b : List ℕ) : Type 0 where
   pub alike : Alike a b
+  pub spaced : is_spaced b ≡ true
   pub front : List ℕ
   pub whole : a ≡ front ++ s
   pub quote : Quotes front → Quotes b
 
 stops_alike : (a b : List ℕ) → is_stop (classes_of a) ≡ true → is_stop (classes_of b) ≡ true → Alike a b
-stops_alike a b h k = record { same = []; left = a; right = b; whole_left = refl; whole_right = refl; stop_left = h; stop_right = k }
+stops_alike a b h k = record { same = []; left = a; right = b; whole_left = refl; whole_right = refl; even = refl; stop_left = h; stop_right = k }
 
-behind_alike : (t a b : List ℕ) → Alike a b → Alike (t ++ a) (t ++ b)
-behind_alike t a b h = record {
+behind_alike : (t a b : List ℕ) → is_odd false (classes_of t) ≡ false → Alike a b → Alike (t ++ a) (t ++ b)
+behind_alike t a b e h = record {
   same = t ++ h.same;
   left = h.left;
   right = h.right;
   whole_left = ap (λ x. t ++ x) h.whole_left ∙ sym (append_assoc t h.same h.left);
   whole_right = ap (λ x. t ++ x) h.whole_right ∙ sym (append_assoc t h.same h.right);
+  even = ap (is_odd false) (map-append class_of t h.same) ∙ odd-append false (classes_of t) (classes_of h.same) ∙ ap (λ b. is_odd b (classes_of h.same)) e ∙ h.even;
   stop_left = h.stop_left;
   stop_right = h.stop_right;
 }
@@ -222,6 +260,17 @@ short_stops g b e h = elim (short_gap g e h) [
   | inl i ↦ subst (StopsBefore b) (sym i) refl
   | inr i ↦ subst (StopsBefore b) (sym i) refl
 ]
+
+short_spaced : (g : Word) (b : List ℕ) → is_gap g.kind ≡ true → IsShort g → is_spaced (g.text ++ b) ≡ true
+short_spaced g b e h = elim (short_gap g e h) [
+  | inl i ↦ subst (λ (v : Word). is_spaced (v.text ++ b) ≡ true) (sym i) refl
+  | inr i ↦ subst (λ (v : Word). is_spaced (v.text ++ b) ≡ true) (sym i) refl
+]
+
+word_spaced : (w : Word) (a b : List ℕ) → is_gap w.kind ≡ false → StaysFirst w a → is_spaced (w.text ++ b) ≡ true
+word_spaced w a b g f =
+    let d = dark_begins w a f (not_white w.kind g) in
+    dark_spaced (w.text ++ b) (ap (λ c. not (begins white c)) (map-append class_of w.text b ∙ ap (λ c. c ++ classes_of b) d.2) ∙ none_white d.0 (d.1 ++ classes_of b) d.3)
 
 -- a short gap before a quote is a space
 short_quotes : (g : Word) (b : List ℕ) → is_gap g.kind ≡ true → IsShort g → Quotes (g.text ++ b) → Quotes b
@@ -238,13 +287,14 @@ white_quotes w y b e q =
 gap_short : (w : Word) → is_gap w.kind ≡ true → is_gap (short_word w).kind ≡ true
 gap_short w e = e
 
-module _ (s r : List ℕ) (stop_s : is_stop (classes_of s) ≡ true) (stop_r : is_stop (classes_of r) ≡ true) where
+module _ (s r : List ℕ) (stop_s : is_stop (classes_of s) ≡ true) (stop_r : is_stop (classes_of r) ≡ true) (dark_r : begins_none white r ≡ true) where
   front_whole : (w : Word) (a : List ℕ) (f : List ℕ) → a ≡ f ++ s → w.text ++ a ≡ (w.text ++ f) ++ s
   front_whole w a f e = ap (λ t. w.text ++ t) e ∙ sym (append_assoc w.text f s)
 
   shorter : (w : Word) (a b : List ℕ) → is_gap w.kind ≡ true → InValue s (w.text ++ a) w → AlikeIn s a b → AlikeIn s (w.text ++ a) ((short_word w).text ++ b)
   shorter w a b g f h = record {
     alike = stops_alike (w.text ++ a) ((short_word w).text ++ b) (gap_stops w a g f.first) (short_stops (short_word w) b g (short-short w));
+    spaced = short_spaced (short_word w) b g (short-short w);
     front = w.text ++ h.front;
     whole = front_whole w a h.front h.whole;
     quote = λ q. let p = gap_quotes w a h.front g f.first q in subst (λ (t : List ℕ). Quotes (t ++ b)) (sym (ap (λ c. cond c (codes " ") (cond (is_gap w.kind) (codes "/**/") w.text)) p.0)) (h.quote p.1);
@@ -257,6 +307,7 @@ module _ (s r : List ℕ) (stop_s : is_stop (classes_of s) ≡ true) (stop_r : i
       let k_short : IsShort k = kept_short (is_white w.kind) (short_word w) y (short-short w) i in
       record {
         alike = stops_alike (w.text ++ a) (k.text ++ b) (gap_stops w a g f.first) (short_stops k b k_gap k_short);
+        spaced = short_spaced k b k_gap k_short;
         front = w.text ++ h.front;
         whole = front_whole w a h.front h.whole;
         quote = λ q. let p = gap_quotes w a h.front g f.first q in white_quotes w y b p.0 (short_quotes y b e i (h.quote p.1));
@@ -265,6 +316,7 @@ module _ (s r : List ℕ) (stop_s : is_stop (classes_of s) ≡ true) (stop_r : i
   dropped : (w : Word) (a : List ℕ) → is_gap w.kind ≡ true → InValue s (w.text ++ a) w → AlikeIn s a r → AlikeIn s (w.text ++ a) r
   dropped w a g f h = record {
     alike = stops_alike (w.text ++ a) r (gap_stops w a g f.first) stop_r;
+    spaced = dark_spaced r dark_r;
     front = w.text ++ h.front;
     whole = front_whole w a h.front h.whole;
     quote = λ q. h.quote (gap_quotes w a h.front g f.first q).1;
@@ -283,12 +335,12 @@ module _ (s r : List ℕ) (stop_s : is_stop (classes_of s) ≡ true) (stop_r : i
       h.quote (subst Quotes i p.2)
 
   kept : (w : Word) (a b : List ℕ) → is_gap w.kind ≡ false → InValue s (w.text ++ a) w → AlikeIn s a b → ReadFirst (w.text ++ b) w
-  kept w a b g f h = (keeps w a b (solid_of w.kind g) f.first h.alike (λ u q. own_quote w a b f h u), f.read)
+  kept w a b g f h = (keeps w a b (solid_of w.kind g) f.first h.alike (λ u q. own_quote w a b f h u) (space_only w b g f.closed h.spaced), f.read)
 
   keeps_value : Keeps (InValue s) ReadFirst (AlikeIn s) s r
   keeps_value = record {
-    end = record { alike = stops_alike s r stop_s stop_r; front = []; whole = refl; quote = λ q. cc };
-    behind = λ t a b h. record { alike = behind_alike t a b h.alike; front = t ++ h.front; whole = ap (λ x. t ++ x) h.whole ∙ sym (append_assoc t h.front s); quote = quotes_behind t h.front b h.quote };
+    end = record { alike = stops_alike s r stop_s stop_r; spaced = dark_spaced r dark_r; front = []; whole = refl; quote = λ q. cc };
+    behind = λ w a b g f h. record { alike = behind_alike w.text a b (first_even w a f.first) h.alike; spaced = word_spaced w a b g f.first; front = w.text ++ h.front; whole = front_whole w a h.front h.whole; quote = quotes_behind w.text h.front b h.quote };
     shorter = shorter;
     merged = merged;
     dropped = dropped;
@@ -298,5 +350,5 @@ module _ (s r : List ℕ) (stop_s : is_stop (classes_of s) ≡ true) (stop_r : i
   }
 
 -- the printed text of a value reads as its words
-pub value_reads : (v : List Component) (s r : List ℕ) → all_formed v ≡ true → is_stop (classes_of s) ≡ true → is_stop (classes_of r) ≡ true → ReadsTo (spelled (words_all v) ++ s) (words_all v) s → ReadsTo (value_text v ++ r) (value_words v) r
-value_reads v s r h k l reads = reads_of (value_words v) r (chain_value (InValue s) ReadFirst (AlikeIn s) s r (keeps_value s r k l) v (in_value (words_all v) s (formed_closes v h) (chain_of (words_all v) s reads)))
+pub value_reads : (v : List Component) (s r : List ℕ) → all_formed v ≡ true → list_all (λ (w : Word). not (takes_space w)) (words_all v) ≡ true → is_stop (classes_of s) ≡ true → is_stop (classes_of r) ≡ true → begins_none white r ≡ true → ReadsTo (spelled (words_all v) ++ s) (words_all v) s → ReadsTo (value_text v ++ r) (value_words v) r
+value_reads v s r h n k l d reads = reads_of (value_words v) r (chain_value (InValue s) ReadFirst (AlikeIn s) s r (keeps_value s r k l d) v (in_value (words_all v) s n (formed_closes v h) (chain_of (words_all v) s reads)))

@@ -20,7 +20,8 @@ Chain First (w ∷ ws) rest = First (w.text ++ (spelled ws ++ rest)) w × Chain 
 -- the new one.
 pub record Keeps (Old : List ℕ → Word → Type 0) (First : List ℕ → Word → Type 0) (Alike : List ℕ → List ℕ → Type 0) (s r : List ℕ) : Type 0 where
   pub end : Alike s r
-  pub behind : (t a b : List ℕ) → Alike a b → Alike (t ++ a) (t ++ b)
+  -- behind a word that is no gap
+  pub behind : (w : Word) (a b : List ℕ) → is_gap w.kind ≡ false → Old (w.text ++ a) w → Alike a b → Alike (w.text ++ a) (w.text ++ b)
   -- a gap before what is no gap becomes short
   pub shorter : (w : Word) (a b : List ℕ) → is_gap w.kind ≡ true → Old (w.text ++ a) w → Alike a b → Alike (w.text ++ a) ((short_word w).text ++ b)
   -- a gap before a short gap y: the white one of them is left
@@ -96,7 +97,7 @@ module _ (Old First : List ℕ → Word → Type 0) (Alike : List ℕ → List �
 
   solid_walks : (w : Word) (xs : List Word) (a : List ℕ) → is_gap w.kind ≡ false → Old (w.text ++ a) w → Walks a (before_gap word_kind xs) → Walks (w.text ++ a) (w ∷ before_gap word_kind xs)
   solid_walks w xs a e first h = (
-    subst (Alike (w.text ++ a)) (sym (append_assoc w.text (spelled (before_gap word_kind xs)) r)) (keeps.behind w.text a (spelled (before_gap word_kind xs) ++ r) h.0),
+    subst (Alike (w.text ++ a)) (sym (append_assoc w.text (spelled (before_gap word_kind xs)) r)) (keeps.behind w a (spelled (before_gap word_kind xs) ++ r) e first h.0),
     (keeps.kept w a (spelled (before_gap word_kind xs) ++ r) e first h.0, h.1),
   )
 

@@ -5,8 +5,8 @@ use Rattle.css_tokens.specs.declared.kind.Kind.TheVariants as kind
 use Rattle.css_tokens.specs.declared.class.Class.{Class}
 use Rattle.css_tokens.specs.declared.class.Class.TheVariants as class
 use Rattle.std.specs.List.{list_any}
-use Rattle.css_tokens.specs.Characters.{is_class, white, name_start, name, sign, in_string, in_url, delim}
-use Rattle.css_tokens.specs.Patterns.{Pattern, One, Many, Closed, ◌∣◌, ◌⋅◌, optional, some, fits}
+use Rattle.css_tokens.specs.Characters.{is_class, white, name_start, name, sign, newline, hex, escaped, in_string, in_url, delim}
+use Rattle.css_tokens.specs.Patterns.{Pattern, One, Many, Closed, Star, UpTo, ◌∣◌, ◌⋅◌, optional, some, fits}
 
 -- one character of this class
 abbrev pub the : Class → Pattern
@@ -20,9 +20,28 @@ white_space = some white
 abbrev pub comment : Pattern
 comment = the class.Slash ⋅ the class.Star ⋅ Closed false
 
+-- a newline: CR LF, LF, CR or FF
+abbrev pub new_line : Pattern
+new_line = (the class.Return ⋅ the class.Feed) ∣ One newline
+
+-- one white space, where CR LF counts as one
+abbrev pub one_white : Pattern
+one_white = (the class.Return ⋅ the class.Feed) ∣ One white
+
+-- an escape: `\`, and one to six hexadecimal digits and at most one white space, or another character that is no newline
+abbrev pub escape : Pattern
+escape = the class.Backslash ⋅ ((One hex ⋅ UpTo 5 hex ⋅ optional one_white) ∣ One escaped)
+
+-- a name start, and a character of a name, or an escape
+abbrev pub start_part : Pattern
+start_part = One name_start ∣ escape
+
+abbrev pub name_part : Pattern
+name_part = One name ∣ escape
+
 -- an identifier: `--` and any characters of names, or an optional `-`, a name start and any characters of names
 abbrev pub ident : Pattern
-ident = (the class.Minus ⋅ the class.Minus ⋅ Many name) ∣ (optional (the class.Minus) ⋅ One name_start ⋅ Many name)
+ident = (the class.Minus ⋅ the class.Minus ⋅ Star name_part) ∣ (optional (the class.Minus) ⋅ start_part ⋅ Star name_part)
 
 -- a function token: an identifier and `(`
 abbrev pub function : Pattern
@@ -34,11 +53,11 @@ at_keyword = the class.At ⋅ ident
 
 -- a hash: `#` and one or more characters of names
 abbrev pub hash : Pattern
-hash = the class.Hash ⋅ some name
+hash = the class.Hash ⋅ name_part ⋅ Star name_part
 
 -- a string between these quotes
 abbrev pub quoted : Class → Pattern
-quoted quote = the quote ⋅ Many (in_string quote) ⋅ the quote
+quoted quote = the quote ⋅ Star (One (in_string quote) ∣ escape ∣ (the class.Backslash ⋅ new_line)) ⋅ the quote
 
 -- a string, in double or in single quotes
 abbrev pub string : Pattern
@@ -78,7 +97,7 @@ cdc = the class.Minus ⋅ the class.Minus ⋅ the class.Greater
 
 -- what follows the `(` of a Url: its text with optional white space round it, and `)`
 abbrev pub url_inside : Pattern
-url_inside = Many white ⋅ Many in_url ⋅ Many white ⋅ the class.CloseParen
+url_inside = Many white ⋅ Star (One in_url ∣ escape) ⋅ Many white ⋅ the class.CloseParen
 
 -- A row of the table: what spells the kind, and the characters of which none may follow.
 pub record Row : Type 0 where

@@ -1,5 +1,6 @@
 pub mod Again
 pub mod Characters
+pub mod Contents
 pub mod Faults
 pub mod formers
 pub mod Kinds

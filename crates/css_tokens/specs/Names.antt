@@ -1,7 +1,15 @@
 -- The name that a token holds (CSS Syntax 3, section 4).
-use Rattle.std.specs.Prelude.{ℕ, List, [], ◌∷◌, reverse, Bool, true, false, ◌||◌, ◌==◌, if◌then◌else◌}
+use Rattle.std.specs.Prelude.{ℕ, List, [], ◌∷◌, reverse, not, ◌&&◌, Bool, true, false, ◌==◌, if◌then◌else◌}
 use Rattle.css_tokens.specs.declared.kind.Kind.{Kind}
 use Rattle.css_tokens.specs.declared.kind.Kind.TheVariants.{White, Comment, Ident, Function, Url, At, Hash, String, Number, Percentage, Dimension, Colon, Semicolon, Comma, Open, Close, Delim, Cdo, Cdc}
+use Rattle.std.specs.List.{list_all}
+use Rattle.std.specs.Str.{chars, is_utf8}
+use Rattle.css_tokens.specs.Contents.{is_space}
+
+-- is it a name: not empty, in UTF-8, and without U+0000?
+abbrev pub is_name : List ℕ → Bool
+is_name [] = false
+is_name (b ∷ bs) = is_utf8 (b ∷ bs) && list_all (λ c. not (c == 0)) (chars (b ∷ bs))
 
 -- does a token of this kind hold a name?
 abbrev pub has_name : Kind → Bool
@@ -24,10 +32,6 @@ has_name Close = false
 has_name Delim = false
 has_name Cdo = false
 has_name Cdc = false
-
--- space, tab, LF, CR and FF
-abbrev pub is_space : ℕ → Bool
-is_space b = b == 32 || b == 9 || b == 10 || b == 13 || b == 12
 
 -- the text without this byte at its start
 abbrev pub after_byte : ℕ → List ℕ → List ℕ

@@ -1,5 +1,5 @@
 -- Patterns of characters, and the texts that they fit; they stand for the diagrams of CSS Syntax 3, section 4.1.
-use Rattle.std.specs.Prelude.{List, [], ◌∷◌, Bool, true, false, ◌||◌, ◌&&◌, if◌then◌else◌}
+use Rattle.std.specs.Prelude.{ℕ, suc, zero, List, [], ◌∷◌, Bool, true, false, ◌||◌, ◌&&◌, if◌then◌else◌}
 use Rattle.std.specs.List.{list_all}
 use Rattle.css_tokens.specs.declared.class.Class.{Class}
 use Rattle.css_tokens.specs.declared.class.Class.TheVariants as class
@@ -15,6 +15,8 @@ pub data Pattern : Type 0 where
   Either : Pattern → Pattern → Pattern
   Then : Pattern → Pattern → Pattern
   Closed : Bool → Pattern
+  Star : Pattern → Pattern
+  UpTo : ℕ → List Class → Pattern
 
 -- one pattern or the other
 infixr 30 ◌∣◌
@@ -49,6 +51,22 @@ abbrev pub any_cut : (List Class → Bool) → (List Class → Bool) → List Cl
 any_cut front rest [] = front [] && rest []
 any_cut front rest (x ∷ s) = (front [] && rest (x ∷ s)) || any_cut (λ t. front (x ∷ t)) rest s
 
+-- can the text be cut into pieces of which the first passes the test `front`, and the others the test `piece`, none of these empty?
+abbrev pub any_cuts : (List Class → Bool) → (List Class → Bool) → List Class → Bool
+any_cuts piece front [] = front []
+any_cuts piece front (x ∷ s) = (front [] && any_cuts piece (λ t. piece (x ∷ t)) s) || any_cuts piece (λ t. front (x ∷ t)) s
+
+-- is the text one piece after another that pass the test?
+abbrev pub is_repeated : (List Class → Bool) → List Class → Bool
+is_repeated piece [] = true
+is_repeated piece (x ∷ s) = any_cuts piece (λ t. piece (x ∷ t)) s
+
+-- are there at most n characters, all of the set?
+abbrev pub is_up_to : ℕ → List Class → List Class → Bool
+is_up_to n set [] = true
+is_up_to zero set (x ∷ s) = false
+is_up_to (suc n) set (x ∷ s) = has set x && is_up_to n set s
+
 -- does the first `*/` end the text?
 abbrev pub is_closed : Bool → List Class → Bool
 is_closed starred [] = false
@@ -63,3 +81,5 @@ fits (Many set) s = list_all (has set) s
 fits (Either p q) s = fits p s || fits q s
 fits (Then p q) s = any_cut (fits p) (fits q) s
 fits (Closed starred) s = is_closed starred s
+fits (Star p) s = is_repeated (fits p) s
+fits (UpTo n set) s = is_up_to n set s

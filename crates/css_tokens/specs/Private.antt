@@ -1,4 +1,5 @@
 -- What the clauses of private functions alone cite: how the work is done, step by step. A reader need not believe it.
+pub mod Contents
 pub mod Machine
 pub mod NamePlaces
 pub mod Nests

@@ -1,15 +1,15 @@
 -- The tokens of a text: what its first token is, what its tokens are, and where reading stops (CSS Syntax 3, sections 4.3.1 and 4.3.4).
-use Rattle.std.specs.Prelude.{ℕ, ◌+◌, List, [], ◌∷◌, map, length, take, drop, ◌≡◌, ◌⊎◌, Bool, true, false, ◌&&◌, ◌||◌, not, Option, Some, None, MatchOption, codes, nat_eq, nat_lt, if◌then◌else◌}
-use Rattle.std.specs.List.{list_all, position}
+use Rattle.std.specs.Prelude.{ℕ, ◌+◌, List, [], ◌∷◌, map, length, take, drop, ◌≡◌, ◌⊎◌, Bool, true, false, ◌&&◌, ◌||◌, not, Option, Some, None, MatchOption, nat_eq, if◌then◌else◌}
+use Rattle.std.specs.List.{position, starts_with}
+use Rattle.std.specs.Str.Lossy.{utf8_valid_len}
 use Rattle.std.specs.Option.{option_map, option_and_then}
-use Rattle.std.specs.Char.{to_ascii_lowercase}
-use lib.Pointwise.{pointwise}
 use Rattle.css_tokens.specs.declared.kind.Kind.{Kind}
 use Rattle.css_tokens.specs.declared.kind.Kind.TheVariants as kind
 use Rattle.css_tokens.specs.declared.class.Class.{Class}
 use Rattle.css_tokens.specs.declared.class.Class.TheVariants as class
 use Rattle.css_tokens.specs.Characters.{class_of, has, is_class, white}
 use Rattle.css_tokens.specs.Kinds.{Row, table, url_table, url_inside, kind_of, is_kind}
+use Rattle.css_tokens.specs.Contents.{is_url_name}
 use Rattle.css_tokens.specs.Patterns.{fits}
 use Rattle.css_tokens.specs.Piece.{Piece, Word, spelled}
 
@@ -39,23 +39,28 @@ longest kind (x ∷ s) = or_else (option_map (longer 1) (longest (λ front after
 abbrev pub front_of : List Row → List ℕ → Option (Kind × ℕ)
 front_of rows text = longest (kind_of rows) (classes_of text)
 
--- is this the text `url(`, in any case of ASCII letters?
+-- is there a kind, and is it this one?
+abbrev pub names : Kind → Option Kind → Bool
+names k None = false
+names k (Some j) = is_kind k j
+
+-- is this a Function whose decoded name is `url`, in any case of ASCII letters?
 abbrev pub is_url : List ℕ → Bool
-is_url text = pointwise nat_eq (map to_ascii_lowercase text) (codes "url(")
+is_url text = names kind.Function (kind_of table (classes_of text) []) && is_url_name text
 
 -- is the first character that is not white space a quote?
 abbrev pub quote_follows : List Class → Bool
 quote_follows [] = false
 quote_follows (x ∷ s) = if has white x then quote_follows s else has (class.DoubleQuote ∷ class.SingleQuote ∷ []) x
 
--- A Function `url(` stays one where a quote follows. Else it begins a Url, or else no kind is spelled there.
+-- A Function named `url` stays one where a quote follows. Else it begins a Url, or else no kind is spelled there.
 abbrev pub url_rule : List ℕ → Kind × ℕ → Option (Kind × ℕ)
 url_rule text front =
     if is_url (take front.1 text) && not (quote_follows (classes_of (drop front.1 text)))
     then option_map (longer front.1) (front_of url_table (drop front.1 text))
     else Some front
 
--- the first token of a text as its kind and its length, with the rule on `url(`
+-- the first token of a text as its kind and its length, with the rule on `url`
 abbrev pub first_front : List ℕ → Option (Kind × ℕ)
 first_front text = option_and_then (url_rule text) (front_of table text)
 
@@ -63,7 +68,7 @@ first_front text = option_and_then (url_rule text) (front_of table text)
 abbrev pub word : List ℕ → Kind × ℕ → Word
 word text front = record { kind = front.0; text = take front.1 text }
 
--- w is the first token of the text: its longest front that spells a kind, and the first kind of the table that it spells, with the rule on `url(`
+-- w is the first token of the text: its longest front that spells a kind, and the first kind of the table that it spells, with the rule on `url`
 abbrev pub First : List ℕ → Word → Type 0
 First text w = option_map (word text) (first_front text) ≡ Some w
 
@@ -72,14 +77,14 @@ abbrev pub IsStuck : List ℕ → Type 0
 IsStuck [] = ⊥
 IsStuck (b ∷ text) = first_front (b ∷ text) ≡ None
 
--- is there a kind, and is it this one?
-abbrev pub names : Kind → Option Kind → Bool
-names k None = false
-names k (Some j) = is_kind k j
+-- is this front a Function named `url`, and what is behind it the inside of a Url?
+abbrev pub is_url_at : List ℕ → Option (Kind × ℕ) → Bool
+is_url_at text None = false
+is_url_at text (Some front) = is_url (take front.1 text) && fits url_inside (classes_of (drop front.1 text))
 
--- does the text spell the kind, what follows it aside? By the table, or as a Url: `url(` and its inside
+-- does the text spell the kind, what follows it aside? By the table, or as a Url: a Function named `url` and its inside
 unfoldable pub spells : Kind → List ℕ → Bool
-spells k text = names k (kind_of table (classes_of text) []) || (is_kind k kind.Url && (is_url (take 4 text) && fits url_inside (classes_of (drop 4 text))))
+spells k text = names k (kind_of table (classes_of text) []) || (is_kind k kind.Url && is_url_at text (front_of table text))
 
 -- `<!--` and `-->` are spelled, and not read
 abbrev pub is_refused : Kind → Bool
@@ -92,10 +97,6 @@ abbrev pub ReadsTo : List ℕ → List Word → List ℕ → Type 0
 ReadsTo text [] rest = text ≡ rest
 ReadsTo text (w ∷ ws) rest = First text w × (is_refused w.kind ≡ false) × ReadsTo (drop (length w.text) text) ws rest
 
--- the whole text reads as these words
-abbrev pub Reads : List ℕ → List Word → Type 0
-Reads text words = ReadsTo text words []
-
 -- each piece stands behind those before it, the first at this place
 abbrev pub IsPlaced : ℕ → List Piece → Type 0
 IsPlaced at [] = Unit {0}
@@ -105,6 +106,26 @@ IsPlaced at (p ∷ ps) = (p.at ≡ at) × IsPlaced (at + length p.text) ps
 abbrev pub is_control : ℕ → Bool
 is_control b = is_class class.Control (class_of b)
 
+-- how many bytes the byte order mark at the start of the text takes: EF BB BF, or none
+abbrev pub mark_length : List ℕ → ℕ
+mark_length text = if starts_with nat_eq text (0xEF ∷ 0xBB ∷ 0xBF ∷ []) then 3 else 0
+
+-- the text behind a byte order mark
+abbrev pub after_mark : List ℕ → List ℕ
+after_mark text = drop (mark_length text) text
+
+-- the first byte that belongs to no character in UTF-8
+abbrev pub broken_place : List ℕ → Option ℕ
+broken_place text = if nat_eq (utf8_valid_len text) (length text) then None else Some (utf8_valid_len text)
+
+-- the first byte that belongs to no character in UTF-8, or is a control character
+abbrev pub bad_place : List ℕ → Option ℕ
+bad_place text = or_else (position is_control (take (utf8_valid_len text) text)) (broken_place text)
+
+-- behind a byte order mark the text is in UTF-8 without control characters, and reads as these words
+abbrev pub Reads : List ℕ → List Word → Type 0
+Reads text words = (bad_place (after_mark text) ≡ None) × ReadsTo (after_mark text) words []
+
 -- reading can't go on: no kind is spelled, or one that is not read
 abbrev pub Stops : List ℕ → Type 0
 Stops text = IsStuck text ⊎ ((w : Word) × First text w × (is_refused w.kind ≡ true))
@@ -113,13 +134,13 @@ Stops text = IsStuck text ⊎ ((w : Word) × First text w × (is_refused w.kind 
 abbrev pub StopsReading : List ℕ → ℕ → Type 0
 StopsReading text o = (words : List Word) × (rest : List ℕ) × ReadsTo text words rest × Stops rest × (o ≡ length (spelled words))
 
--- where a text has no reading: at its first control character, or else where reading can't go on
-abbrev pub StopsAt : List ℕ → ℕ → Type 0
-StopsAt text o =
-    MatchOption (position is_control text)
+-- where a text without a byte order mark has no reading: at its first bad byte, or else where reading can't go on
+abbrev pub StopsBehind : List ℕ → ℕ → Type 0
+StopsBehind text o =
+    MatchOption (bad_place text)
     (StopsReading text o)
     (λ place. o ≡ place)
 
--- is it ASCII, without `\`?
-abbrev pub is_plain : List ℕ → Bool
-is_plain text = list_all (λ b. nat_lt b 128 && not (nat_eq b 92)) text
+-- where a text has no reading, its byte order mark counted
+abbrev pub StopsAt : List ℕ → ℕ → Type 0
+StopsAt text o = (n : ℕ) × StopsBehind (after_mark text) n × (o ≡ mark_length text + n)

@@ -1,9 +1,10 @@
 -- Runs of white space and comments, and how a value prints (CSS Syntax 3, section 10).
-use Rattle.std.specs.Prelude.{ℕ, List, [], ◌∷◌, map, Bool, true, false, ◌&&◌, if◌then◌else◌, codes}
+use Rattle.std.specs.Prelude.{ℕ, List, [], ◌∷◌, map, Bool, true, false, not, ◌&&◌, if◌then◌else◌, codes}
 use Rattle.css_tokens.specs.declared.kind.Kind.{Kind}
 use Rattle.css_tokens.specs.declared.kind.Kind.TheVariants.{White, Comment, Ident, Function, Url, At, Hash, String, Number, Percentage, Dimension, Colon, Semicolon, Comma, Open, Close, Delim, Cdo, Cdc}
 use Rattle.css_tokens.specs.declared.component.Component.{Component}
 use Rattle.css_tokens.specs.Piece.{Word, spelled}
+use Rattle.css_tokens.specs.Again.{takes}
 use Rattle.css_tokens.specs.Trees.{words_all}
 
 -- white space?
@@ -49,6 +50,10 @@ is_gap Close = false
 is_gap Delim = false
 is_gap Cdo = false
 is_gap Cdc = false
+
+-- does the word end in an escape that takes a space which follows it?
+abbrev pub takes_space : Word → Bool
+takes_space w = not (is_gap w.kind) && takes w (codes " ")
 
 -- white space as one space, a comment as `/**/`, any other text as it is
 abbrev pub short_text : Kind → List ℕ → List ℕ

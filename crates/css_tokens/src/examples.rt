@@ -3,6 +3,7 @@
 ghost use Rattle.std.specs.Prelude.{◌≡◌, List, [], ◌∷◌, true, false, Some, None, codes};
 ghost use Rattle.css_tokens.specs.declared.kind.Kind.TheVariants.{White, Comment, Ident, Function, Url, At, Hash, String as quoted, Number, Percentage, Dimension, Colon, Semicolon, Comma, Open, Close, Delim, Cdo, Cdc};
 ghost use Rattle.css_tokens.specs.Piece.{spelled};
+ghost use Rattle.css_tokens.specs.Contents.{content, is_paren, never};
 ghost use Rattle.css_tokens.specs.Names.{name_of_word};
 ghost use Rattle.css_tokens.specs.Pairing.{awaited, depth};
 ghost use Rattle.css_tokens.specs.Samples.{brackets, word};
@@ -44,6 +45,32 @@ pub fn first_tokens()
     ensures nothing { first_front [] ≡ None }
 {}
 
+/// Escapes in names and strings, and characters from U+0080 on (CSS Syntax 3, sections 4.3.4, 4.3.7 and 4.3.8).
+pub fn escapes()
+    ensures digits_and_a_space { first_front (codes "\\31 a b") ≡ Some (Ident, 5) }
+    ensures another_character { first_front (codes "a\\{b{") ≡ Some (Ident, 4) }
+    ensures seven_digits { first_front (codes "\\1234567 ") ≡ Some (Ident, 8) }
+    ensures one_newline { first_front (codes "\\a\r\n\n") ≡ Some (Ident, 4) }
+    ensures no_escape { first_front (codes "\\\n") ≡ None }
+    ensures string { first_front (codes "'\\'\\\n'") ≡ Some (quoted, 6) }
+    ensures hash { first_front (codes "#\\31 \\31 1") ≡ Some (Hash, 10) }
+    ensures dimension { first_front (codes "1\\65 3") ≡ Some (Dimension, 6) }
+    ensures high { first_front (195 ∷ 169 ∷ codes " ") ≡ Some (Ident, 2) }
+{}
+
+/// What the text of a name or a string means (CSS Syntax 3, section 4.3.7).
+pub fn contents()
+    ensures digits { content never (codes "\\31 a") ≡ codes "1a" }
+    ensures six_digits { content never (codes "\\0000312") ≡ codes "12" }
+    ensures zero { content never (codes "\\0") ≡ 0xEF ∷ 0xBF ∷ 0xBD ∷ [] }
+    ensures surrogate { content never (codes "\\d800 x") ≡ 0xEF ∷ 0xBF ∷ 0xBD ∷ codes "x" }
+    ensures too_great { content never (codes "\\110000") ≡ 0xEF ∷ 0xBF ∷ 0xBD ∷ [] }
+    ensures two_bytes { content never (codes "\\e9") ≡ 0xC3 ∷ 0xA9 ∷ [] }
+    ensures itself { content never (codes "\\g\\\\") ≡ codes "g\\" }
+    ensures newline { content never (codes "a\\\r\nb") ≡ codes "ab" }
+    ensures up_to { content is_paren (codes "a\\(b(c") ≡ codes "a(b" }
+{}
+
 /// What begins with `url(`: a Function before a quote, and else a Url or nothing (CSS Syntax 3, section 4.3.6).
 pub fn urls()
     ensures url { first_front (codes "url(a.png) b") ≡ Some (Url, 10) }
@@ -53,6 +80,9 @@ pub fn urls()
     ensures bad { first_front (codes "url(a b)") ≡ None }
     ensures bad_quote { first_front (codes "url(a'b)") ≡ None }
     ensures open { first_front (codes "url(a") ≡ None }
+    ensures escaped { first_front (codes "\\75 rl(a)") ≡ Some (Url, 9) }
+    ensures escaped_parenthesis { first_front (codes "url(\\)  )") ≡ Some (Url, 9) }
+    ensures escaped_quoted { first_front (codes "u\\52 l('") ≡ Some (Function, 7) }
     ensures longer_name { first_front (codes "my-url(a b)") ≡ Some (Function, 7) }
 {}
 

@@ -1,18 +1,20 @@
-ghost use Rattle.std.specs.Prelude.{ℕ, List, ◌∷◌, [], ◌++◌, ◌≡◌, ◌≢◌, ◌≤◌, ◌⊎◌, IsTrue, true, false, codes, length, map};
+ghost use Rattle.std.specs.Prelude.{ℕ, List, ◌∷◌, [], ◌++◌, ◌≡◌, ◌≢◌, ◌≤◌, ◌⊎◌, IsTrue, true, false, not, codes, length, map};
 ghost use Rattle.std.specs.List.{AllByRecursion, list_all};
 ghost use Rattle.std.specs.Str.{str_to_ascii_lowercase};
 ghost use Rattle.css_tokens.specs.declared.component.Component.{Component};
 ghost use Rattle.css_tokens.specs.declared.class.Class.TheVariants as class;
 ghost use Rattle.css_tokens.specs.declared.kind.Kind.TheVariants as kind;
 ghost use Rattle.css_tokens.specs.declared.pairing.ComponentFault.{ComponentFault};
-ghost use Rattle.css_tokens.specs.Again.{StaysFirst, Alike, KeepsQuote, is_solid, is_stop, is_end_kind, word_from, marks, begins_none, after_ident, after_name, digit, digit_or_dot};
-ghost use Rattle.css_tokens.specs.Characters.{name, white};
+ghost use Rattle.css_tokens.specs.Again.{StaysFirst, Alike, KeepsQuote, is_solid, is_stop, is_end_kind, word_from, marks, begins_none, after_ident, after_name, more_name, takes, digit, digit_or_dot};
+ghost use Rattle.css_tokens.specs.Characters.{white};
+ghost use Rattle.css_tokens.specs.Contents.{content, never};
+ghost use Rattle.css_tokens.specs.NameText.{name_text};
+ghost use Rattle.css_tokens.specs.Names.{is_name};
 ghost use Rattle.css_tokens.specs.Pairing.{IsBracketFault, IsMismatch, IsPaired, IsTooDeep, IsUnclosed, places_rise};
 ghost use Rattle.css_tokens.specs.Piece.{Piece, Word, spelled, word_of};
-ghost use Rattle.css_tokens.specs.PlainNames.{is_plain_name};
-ghost use Rattle.css_tokens.specs.Tokens.{First, IsPlaced, Reads, ReadsTo, StopsAt, classes_of, is_plain, is_url, quote_follows, spells};
+ghost use Rattle.css_tokens.specs.Tokens.{First, IsPlaced, Reads, ReadsTo, StopsAt, classes_of, is_url, mark_length, quote_follows, spells};
 ghost use Rattle.css_tokens.specs.Trees.{words_all, all_formed, is_text, pieces_all};
-ghost use Rattle.css_tokens.specs.Values.{is_gap, value_words, value_text};
+ghost use Rattle.css_tokens.specs.Values.{is_gap, takes_space, value_words, value_text};
 
 /// A text reads in at most one way, or has a fault at one place within it, and never both.
 pub fn one_reading()
@@ -41,26 +43,27 @@ pub fn some_pairing()
 
 /// The places of the tokens of a text rise and lie within it, and so do the places of faults of brackets.
 pub fn places_rise_in_a_text()
-    ensures rise { (t : List ℕ) (ps : List Piece) → Reads t (map word_of ps) → IsPlaced 0 ps → IsTrue (places_rise ps (length t)) }
-    ensures within { (t : List ℕ) (ps : List Piece) → Reads t (map word_of ps) → IsPlaced 0 ps → AllByRecursion (λ p. p.at ≤ length t) ps }
+    ensures rise { (t : List ℕ) (ps : List Piece) → Reads t (map word_of ps) → IsPlaced (mark_length t) ps → IsTrue (places_rise ps (length t)) }
+    ensures within { (t : List ℕ) (ps : List Piece) → Reads t (map word_of ps) → IsPlaced (mark_length t) ps → AllByRecursion (λ p. p.at ≤ length t) ps }
     ensures mismatch { (ps : List Piece) (end o : ℕ) → AllByRecursion (λ p. p.at ≤ end) ps → IsMismatch ps o → o ≤ end }
     ensures deep { (ps : List Piece) (end o : ℕ) → AllByRecursion (λ p. p.at ≤ end) ps → IsTooDeep ps o → o ≤ end }
     ensures unclosed { (ps : List Piece) (end o : ℕ) → IsUnclosed ps end o → o ≤ end }
 {}
 
 /// Words that are written one after another are read again. A token that is neither white space nor a comment stays the
-/// first where what follows it changes behind a stop (`specs/Again.antt`); for the Function `url(` a quote has to stay.
+/// first where what follows it changes behind a stop (`specs/Again.antt`); for a Function named `url` a quote has to stay,
+/// and an escape at the token's end must not take the white space that then follows.
 pub fn words_again()
-    ensures keeps { (w : Word) (a b : List ℕ) → is_solid w.kind ≡ true → StaysFirst w a → Alike a b → (is_url w.text ≡ true → KeepsQuote a b) → StaysFirst w b }
+    ensures keeps { (w : Word) (a b : List ℕ) → is_solid w.kind ≡ true → StaysFirst w a → Alike a b → (is_url w.text ≡ true → KeepsQuote a b) → takes w b ≡ false → StaysFirst w b }
     ensures composes { (xs ys : List Word) (s r : List ℕ) → ReadsTo (spelled xs ++ s) xs s → ReadsTo s ys r → ReadsTo (spelled xs ++ s) (xs ++ ys) r }
     ensures marks { AllByRecursion (λ w. (rest : List ℕ) → StaysFirst w rest) marks }
     ensures dot { (rest : List ℕ) → begins_none digit rest ≡ true → StaysFirst (word_from kind.Delim (codes ".")) rest }
     ensures plus { (rest : List ℕ) → begins_none digit_or_dot rest ≡ true → StaysFirst (word_from kind.Delim (codes "+")) rest }
     ensures space { (rest : List ℕ) → begins_none white rest ≡ true → StaysFirst (word_from kind.White (codes " ")) rest }
     ensures feed { (rest : List ℕ) → begins_none white rest ≡ true → StaysFirst (word_from kind.White (10 ∷ [])) rest }
-    ensures ident { (u rest : List ℕ) → spells kind.Ident u ≡ true → begins_none after_ident rest ≡ true → StaysFirst (word_from kind.Ident u) rest }
-    ensures hash { (u rest : List ℕ) → spells kind.Hash u ≡ true → begins_none name rest ≡ true → StaysFirst (word_from kind.Hash u) rest }
-    ensures at { (u rest : List ℕ) → spells kind.At u ≡ true → begins_none name rest ≡ true → StaysFirst (word_from kind.At u) rest }
+    ensures ident { (u rest : List ℕ) → spells kind.Ident u ≡ true → begins_none after_ident rest ≡ true → takes (word_from kind.Ident u) rest ≡ false → StaysFirst (word_from kind.Ident u) rest }
+    ensures hash { (u rest : List ℕ) → spells kind.Hash u ≡ true → begins_none more_name rest ≡ true → takes (word_from kind.Hash u) rest ≡ false → StaysFirst (word_from kind.Hash u) rest }
+    ensures at { (u rest : List ℕ) → spells kind.At u ≡ true → begins_none more_name rest ≡ true → takes (word_from kind.At u) rest ≡ false → StaysFirst (word_from kind.At u) rest }
     ensures string { (u rest : List ℕ) → spells kind.String u ≡ true → StaysFirst (word_from kind.String u) rest }
     ensures function { (u rest : List ℕ) → spells kind.Function u ≡ true → is_url u ≡ false → StaysFirst (word_from kind.Function u) rest }
     ensures url { (u rest : List ℕ) → is_url u ≡ true → quote_follows (classes_of rest) ≡ true → StaysFirst (word_from kind.Function u) rest }
@@ -69,7 +72,7 @@ pub fn words_again()
 /// The printed text of a value reads as its words, before whatever begins with a stop. A reading splits anywhere. What
 /// ends a declaration begins with a stop: white space, a comment, `;`, a closing bracket, and a `!` with no `-` behind it.
 pub fn values_again()
-    ensures printed { (v : List Component) (s r : List ℕ) → IsTrue (all_formed v) → is_stop (classes_of s) ≡ true → is_stop (classes_of r) ≡ true → ReadsTo (spelled (words_all v) ++ s) (words_all v) s → ReadsTo (value_text v ++ r) (value_words v) r }
+    ensures printed { (v : List Component) (s r : List ℕ) → IsTrue (all_formed v) → list_all (λ w. not (takes_space w)) (words_all v) ≡ true → is_stop (classes_of s) ≡ true → is_stop (classes_of r) ≡ true → begins_none white r ≡ true → ReadsTo (spelled (words_all v) ++ s) (words_all v) s → ReadsTo (value_text v ++ r) (value_words v) r }
     ensures front { (xs ys : List Word) (s : List ℕ) → ReadsTo (spelled (xs ++ ys) ++ s) (xs ++ ys) s → ReadsTo (spelled xs ++ (spelled ys ++ s)) xs (spelled ys ++ s) }
     ensures back { (xs ys : List Word) (s : List ℕ) → ReadsTo (spelled (xs ++ ys) ++ s) (xs ++ ys) s → ReadsTo (spelled ys ++ s) ys s }
     ensures stops { (w : Word) (rest : List ℕ) → StaysFirst w rest → is_end_kind w.kind ≡ true → is_stop (classes_of (w.text ++ rest)) ≡ true }
@@ -80,20 +83,23 @@ pub fn values_again()
     ensures words_spelled { (t : List ℕ) (ws : List Word) (s : List ℕ) → ReadsTo t ws s → list_all (λ w. spells w.kind w.text) ws ≡ true }
 {}
 
-/// The plain names are the Idents in ASCII without escapes, and `#` with one is a Hash. The first token of a text spells its kind.
+/// A name is not empty, in UTF-8, and without U+0000. Its text spells an Ident, and with `#` before it a Hash, and means
+/// the name again. The first token of a text spells its kind.
 pub fn names_spell()
-    ensures ident { (n : List ℕ) → is_plain_name n ≡ true → spells kind.Ident n ≡ true }
-    ensures plain { (n : List ℕ) → is_plain n ≡ true → spells kind.Ident n ≡ true → is_plain_name n ≡ true }
-    ensures hash { (n : List ℕ) → is_plain_name n ≡ true → spells kind.Hash (codes "#" ++ n) ≡ true }
+    ensures ident { (n : List ℕ) → is_name n ≡ true → spells kind.Ident (name_text n) ≡ true }
+    ensures hash { (n : List ℕ) → is_name n ≡ true → spells kind.Hash (codes "#" ++ name_text n) ≡ true }
+    ensures again { (n : List ℕ) → is_name n ≡ true → content never (name_text n) ≡ n }
     ensures first { (t : List ℕ) (w : Word) → First t w → spells w.kind w.text ≡ true }
 {}
 
-/// What stands next to a plain name: it begins with no digit, `.` or white space; one other than `--` stays an Ident before
-/// a `>` too; and a `+` stays a Delim before a `.` that begins no number.
+/// What stands next to the text of a name: it begins with no digit, `.` or white space; it takes no white space that
+/// follows; one other than `--` stays an Ident before a `>` too; and a `+` stays a Delim before a `.` that begins no number.
 pub fn names_stay()
-    ensures digit { (n rest : List ℕ) → is_plain_name n ≡ true → begins_none digit (n ++ rest) ≡ true }
-    ensures dot { (n rest : List ℕ) → is_plain_name n ≡ true → begins_none digit_or_dot (n ++ rest) ≡ true }
-    ensures white { (n rest : List ℕ) → is_plain_name n ≡ true → begins_none white (n ++ rest) ≡ true }
-    ensures child { (n rest : List ℕ) → is_plain_name n ≡ true → n ≢ codes "--" → begins_none after_name rest ≡ true → StaysFirst (word_from kind.Ident n) rest }
+    ensures digit { (n rest : List ℕ) → is_name n ≡ true → begins_none digit (name_text n ++ rest) ≡ true }
+    ensures dot { (n rest : List ℕ) → is_name n ≡ true → begins_none digit_or_dot (name_text n ++ rest) ≡ true }
+    ensures white { (n rest : List ℕ) → is_name n ≡ true → begins_none white (name_text n ++ rest) ≡ true }
+    ensures ident { (n rest : List ℕ) → is_name n ≡ true → begins_none after_ident rest ≡ true → StaysFirst (word_from kind.Ident (name_text n)) rest }
+    ensures child { (n rest : List ℕ) → is_name n ≡ true → name_text n ≢ codes "--" → begins_none after_name rest ≡ true → StaysFirst (word_from kind.Ident (name_text n)) rest }
+    ensures hash { (n rest : List ℕ) → is_name n ≡ true → begins_none more_name rest ≡ true → StaysFirst (word_from kind.Hash (codes "#" ++ name_text n)) rest }
     ensures plus_dot { (rest : List ℕ) → begins_none digit rest ≡ true → StaysFirst (word_from kind.Delim (codes "+")) (codes "." ++ rest) }
 {}

@@ -3,6 +3,7 @@
 
 mod class;
 mod component;
+mod content;
 pub mod examples;
 mod kind;
 mod laws;
@@ -32,7 +33,7 @@ pub use name::name_of;
 pub use pairing::{ComponentFault, components, one_pairing};
 pub use plain::is_plain_name;
 pub use print::{plain_name, write_name};
-pub use reader::{TokenFault, is_plain_text, tokens};
+pub use reader::{TokenFault, tokens};
 pub use text::Text;
 pub use token::Token;
 pub use value::{is_gap, printed_again, write_value};

@@ -1,6 +1,7 @@
 ghost use Rattle.std.specs.Prelude.{◌≡◌, ◌<◌, IsTrue, IfOk};
-ghost use Rattle.css_tokens.specs.Names.{has_name, is_space, after_byte, before_byte, after_first, after_space, before_space, quote_of, unquoted, name_of_word};
+ghost use Rattle.css_tokens.specs.Names.{has_name, after_byte, before_byte, after_first, after_space, before_space, quote_of, unquoted, name_of_word};
 
+use crate::content::is_space;
 use crate::{Kind, OutOfMemory, Text, Token};
 use std::alloc::Global;
 
@@ -37,13 +38,6 @@ fn after_first(text: &str, byte: u8) -> &str
         }
     }
     ""
-}
-
-/// Space, tab, LF, CR and FF.
-fn is_space(byte: u8) -> bool
-    ensures { result ≡ is_space byte }
-{
-    matches!(byte, b' ' | b'\t' | b'\n' | b'\r' | 12)
 }
 
 /// The text without white space at its start.

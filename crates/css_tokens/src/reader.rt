@@ -1,15 +1,17 @@
-ghost use Rattle.std.specs.Prelude.{◌≡◌, ◌+◌, ◌-◌, ◌^◌, ◌<◌, ◌≤◌, [], IsTrue, IfOk, IfErr, IfSome, IfNone, MatchOption, map, length};
+ghost use Rattle.std.specs.Prelude.{◌≡◌, ◌+◌, ◌-◌, ◌*◌, ◌^◌, ◌<◌, ◌≤◌, ◌∷◌, ◌&&◌, [], ℕ, IsTrue, IfOk, IfErr, IfSome, IfNone, Some, None, not, map, length};
 ghost use Rattle.std.specs.List.{position, list_any};
 ghost use Rattle.std.specs.Option.{option_map};
-ghost use Rattle.css_tokens.specs.Characters.{class_of};
-ghost use Rattle.css_tokens.specs.Kinds.{kind_of};
+ghost use Rattle.css_tokens.specs.Characters.{class_of, has, white};
+ghost use Rattle.css_tokens.specs.Contents.{is_url_name};
+ghost use Rattle.css_tokens.specs.Kinds.{is_kind, kind_of};
 ghost use Rattle.css_tokens.specs.Private.Machine.{rows};
-ghost use Rattle.css_tokens.specs.Faults.{IsFault};
+ghost use Rattle.css_tokens.specs.Faults.{IsFault, RefusesAt};
 ghost use Rattle.css_tokens.specs.Private.Reading.{IsReadingFault, Begins};
 ghost use Rattle.css_tokens.specs.Piece.{spelled, word_of};
-ghost use Rattle.css_tokens.specs.Tokens.{or_else, as_front, longest, classes_of, is_url, quote_follows, first_front, is_control, is_plain, is_refused, Reads, IsPlaced, Stops};
+ghost use Rattle.css_tokens.specs.Tokens.{or_else, as_front, longest, classes_of, quote_follows, first_front, is_control, after_mark, bad_place, mark_length, is_refused, Reads, ReadsTo, IsPlaced, Stops, StopsAt};
 
 use crate::class::{Class, classify};
+use crate::content::is_url_name;
 use crate::machine::{State, kind_at, step};
 use crate::{Kind, List, OutOfMemory, Token};
 use std::alloc::{AllocError, AllocFailed, Global};
@@ -57,31 +59,59 @@ impl<T: Drop> From<AllocFailed<T>> for TokenFault {
     }
 }
 
-/// The tokens of a text in order, each with its place in bytes from 0. The text is ASCII without `\`, and shorter than
-/// 2^32 - 1 bytes. Refused with `Syntax` at the first control character, or else where no token begins or the token is
-/// `<!--` or `-->` (CSS Syntax 3, section 4).
+/// The tokens of a text in order, each with its place in bytes from 0. The text has fewer than 2^32 - 1 bytes. A byte order
+/// mark at its start is skipped, and places count it. Refused with `Syntax` at the first byte that belongs to no character
+/// in UTF-8 or is a control character other than tab, LF, FF and CR, or else where no token begins or the token is `<!--`
+/// or `-->` (CSS Syntax 3, sections 3.2 and 4).
 pub fn tokens<'a>(alloc: Global, text: &'a [u8]) -> Result<List<Token<'a>>, TokenFault>
     requires short { length text.now < 2 ^ 32 - 1 }
-    requires plain { IsTrue (is_plain text.now) }
     ensures read { IfOk result (λ ts. Reads text.now (map word_of ts)) }
-    ensures whole { IfOk result (λ ts. spelled (map word_of ts) ≡ text.now) }
-    ensures placed { IfOk result (λ ts. IsPlaced 0 ts) }
+    ensures whole { IfOk result (λ ts. spelled (map word_of ts) ≡ after_mark text.now) }
+    ensures placed { IfOk result (λ ts. IsPlaced (mark_length text.now) ts) }
     ensures fault { IfErr result (λ e. IsFault text.now e) }
+
+    // Each fault is named, unless memory runs out.
+    ensures named { (o : ℕ) → StopsAt text.now o → RefusesAt result o }
 {
-    if let Some(at) = control_place(text) {
-        return Err(TokenFault::Syntax(at as u32));
-    }
-    match str::from_utf8(text) {
-        Ok(text) => all_tokens(alloc, text),
-        Err(_) => Err(TokenFault::Syntax(0)),
+    let mark = mark_length(text);
+    match checked(&text[mark..]) {
+        Ok(rest) => all_tokens(alloc, rest, mark as u32),
+        Err(at) => Err(TokenFault::Syntax((mark + at) as u32)),
     }
 }
 
-/// Whether the text is ASCII without `\\`, as `tokens` takes it. Takes no memory.
-pub fn is_plain_text(text: &[u8]) -> bool
-    ensures { result ≡ is_plain text.now }
+/// The bytes of the byte order mark that the text begins with.
+fn mark_length(text: &[u8]) -> usize
+    ensures value { result ≡ mark_length text.now }
+    ensures within { result ≤ length text.now }
 {
-    text.iter().all(|byte| *byte < 128 && *byte != b'\\')
+    if text.starts_with(b"\xef\xbb\xbf") {
+        3
+    } else {
+        0
+    }
+}
+
+/// The text, where it is in UTF-8 and has no character that no text may hold, or else the place of the first byte that is
+/// not so.
+fn checked(text: &[u8]) -> Result<&str, usize>
+    ensures ok { IfOk result (λ s. (s.now ≡ text.now) × (bad_place text.now ≡ None)) }
+    ensures err { IfErr result (λ at. bad_place text.now ≡ Some at) }
+    ensures within { IfErr result (λ at. at < length text.now) }
+{
+    match str::from_utf8(text) {
+        Ok(whole) => match control_place(text) {
+            Some(at) => Err(at),
+            None => Ok(whole),
+        },
+        Err(fault) => {
+            let valid = fault.valid_up_to();
+            match control_place(&text[..valid]) {
+                Some(at) => Err(at),
+                None => Err(valid),
+            }
+        }
+    }
 }
 
 /// The place of the first byte that no text may hold.
@@ -114,16 +144,16 @@ fn is_control_character(byte: u8) -> bool
     matches!(byte, 0..=8 | 11 | 14..=31 | 127)
 }
 
-fn all_tokens<'a>(alloc: Global, text: &'a str) -> Result<List<Token<'a>>, TokenFault>
-    requires short { length text.now < 2 ^ 32 - 1 }
-    requires plain { IsTrue (is_plain text.now) }
-    ensures read { IfOk result (λ ts. Reads text.now (map word_of ts)) }
-    ensures placed { IfOk result (λ ts. IsPlaced 0 ts) }
-    ensures fault { IfErr result (λ e. IsReadingFault text.now e) }
+/// The tokens of a text that was checked, which stands at this place.
+fn all_tokens<'a>(alloc: Global, text: &'a str, start: u32) -> Result<List<Token<'a>>, TokenFault>
+    requires { start + length text.now < 2 ^ 32 - 1 }
+    ensures read { IfOk result (λ ts. ReadsTo text.now (map word_of ts) []) }
+    ensures placed { IfOk result (λ ts. IsPlaced start ts) }
+    ensures fault { IfErr result (λ e. IsReadingFault start text.now e) }
 {
     let mut tokens = List::new(alloc);
     let mut rest = text;
-    let mut at: u32 = 0;
+    let mut at = start;
     while !rest.is_empty() {
         let Some(token) = next_token(rest, at) else {
             return Err(TokenFault::Syntax(at));
@@ -138,8 +168,7 @@ fn all_tokens<'a>(alloc: Global, text: &'a str) -> Result<List<Token<'a>>, Token
 
 /// The token that the text begins with, where it has one that is read.
 fn next_token<'a>(text: &'a str, at: u32) -> Option<Token<'a>>
-    requires some { 0 < length text.now }
-    requires plain { IsTrue (is_plain text.now) }
+    requires { 0 < length text.now }
     ensures token { IfSome result (λ token. Begins text.now token) }
     ensures placed { IfSome result (λ token. token.at ≡ at) }
     ensures none { IfNone result (Stops text.now) }
@@ -186,25 +215,48 @@ fn better(kind: Option<Kind>, length: usize, best: Option<(Kind, usize)>) -> Opt
     }
 }
 
+/// Whether this is white space.
+fn is_white(class: Class) -> bool
+    ensures { result ≡ has white class }
+{
+    matches!(
+        class,
+        Class::Blank | Class::Feed | Class::Return | Class::FormFeed
+    )
+}
+
+/// Whether this is a quote.
+fn is_quote(class: Class) -> bool
+    ensures { result ≡ has (Class.DoubleQuote ∷ Class.SingleQuote ∷ []) class }
+{
+    matches!(class, Class::DoubleQuote | Class::SingleQuote)
+}
+
 /// Whether the first character that is not white space is a quote.
 fn is_quote_next(text: &[u8]) -> bool
     ensures { result ≡ quote_follows (classes_of text.now) }
 {
     for byte in text {
-        match classify(*byte) {
-            Class::Blank | Class::Newline => {}
-            Class::DoubleQuote | Class::SingleQuote => return true,
-            _ => return false,
+        let class = classify(*byte);
+        if !is_white(class) {
+            return is_quote(class);
         }
     }
     false
 }
 
-/// Whether this is the Function `url(`.
-fn is_url_function(text: &[u8]) -> bool
-    ensures { result ≡ is_url text.now }
+/// Whether a token of this kind and text is a Function named `url`.
+fn is_url_function(kind: Kind, text: &[u8]) -> bool
+    ensures { result ≡ is_kind Kind.Function kind && is_url_name text.now }
 {
-    text.eq_ignore_ascii_case(b"url(")
+    matches!(kind, Kind::Function) && is_url_name(text)
+}
+
+/// Whether a Url, and no Function, begins with this front and what follows it.
+fn begins_url(kind: Kind, front: &[u8], rest: &[u8]) -> bool
+    ensures { result ≡ ((is_kind Kind.Function kind && is_url_name front.now) && not (quote_follows (classes_of rest.now))) }
+{
+    is_url_function(kind, front) && !is_quote_next(rest)
 }
 
 /// The kind and the length of the first token, where there is one.
@@ -213,11 +265,12 @@ pub(crate) fn first(text: &[u8]) -> Option<(Kind, usize)>
     ensures within { IfSome result (λ front. front.1 ≤ length text.now) }
 {
     let front = longest_front(State::Start, text)?;
-    if !is_url_function(&text[..front.1]) || is_quote_next(&text[front.1..]) {
-        return Some(front);
+    let (name, rest) = text.split_at(front.1);
+    if begins_url(front.0, name, rest) {
+        let inside = longest_front(State::UrlStart, rest)?;
+        return Some((inside.0, inside.1 + front.1));
     }
-    let inside = longest_front(State::UrlStart, &text[front.1..])?;
-    Some((inside.0, inside.1 + front.1))
+    Some(front)
 }
 
 #[cfg(test)]

@@ -3,19 +3,16 @@
 ghost use Rattle.std.specs.Prelude.{IsTrue, length};
 ghost use Rattle.css_tokens.specs.Pairing.{places_rise};
 
-use crate::{
-    Component, ComponentFault, List, Token, components, is_plain_text, places_rise_in_a_text,
-    tokens,
-};
+use crate::{Component, ComponentFault, List, Token, components, places_rise_in_a_text, tokens};
 use std::alloc::Global;
 
-/// The tokens of a short text in ASCII without `\`, or else none.
+/// The tokens of a short text, or else none.
 pub(crate) fn tokens_of(alloc: Global, text: &str) -> List<Token<'_>>
     ensures { IsTrue (places_rise result (length text.now)) }
 {
     places_rise_in_a_text();
     let bytes = text.as_bytes();
-    if bytes.len() <= 200 && is_plain_text(bytes) {
+    if bytes.len() <= 200 {
         if let Ok(list) = tokens(alloc, bytes) {
             return list;
         }

@@ -1,14 +1,18 @@
 -- The machine that reads one token: its states, as what is left of the rows of the table once a text has been read.
-use Rattle.std.specs.Prelude.{List, [], ◌∷◌, Bool, true, false, ◌||◌, ◌&&◌, not, Option, Some, None, if◌then◌else◌}
+use Rattle.std.specs.Prelude.{ℕ, suc, zero, nat_eq, List, [], ◌∷◌, Bool, true, false, ◌||◌, ◌&&◌, ◌++◌, not, Option, Some, None, if◌then◌else◌}
 use lib.Pointwise.{pointwise}
 use Rattle.css_tokens.specs.declared.kind.Kind.{Kind}
 use Rattle.css_tokens.specs.declared.kind.Kind.TheVariants as kind
 use Rattle.css_tokens.specs.declared.class.Class.{Class}
 use Rattle.css_tokens.specs.declared.class.Class.TheVariants as class
 use Rattle.css_tokens.specs.declared.machine.State.{State}
+use Rattle.css_tokens.specs.declared.machine.Holder.{Holder}
+use Rattle.css_tokens.specs.declared.machine.Holder.TheVariants as holder
+use Rattle.css_tokens.specs.declared.machine.Escape.{Escape}
+use Rattle.css_tokens.specs.declared.machine.Escape.TheVariants as escape
 use Rattle.css_tokens.specs.declared.machine.State.TheVariants as state
-use Rattle.css_tokens.specs.Characters.{has, is_class, in_text}
-use Rattle.css_tokens.specs.Patterns.{Pattern, Never, Empty, One, Many, Either, Then, Closed, fits}
+use Rattle.css_tokens.specs.Characters.{has, is_class, in_text, white, newline, hex}
+use Rattle.css_tokens.specs.Patterns.{Pattern, Never, Empty, One, Many, Either, Then, Closed, Star, UpTo, fits}
 use Rattle.css_tokens.specs.Kinds.{Row, row, table, url_table, begins}
 
 -- do the two sets list the same classes in the same order?
@@ -25,6 +29,8 @@ is_pattern (Either p q) (Either r s) = is_pattern p r && is_pattern q s
 is_pattern (Then p q) (Then r s) = is_pattern p r && is_pattern q s
 is_pattern (Closed true) (Closed true) = true
 is_pattern (Closed false) (Closed false) = true
+is_pattern (Star p) (Star q) = is_pattern p q
+is_pattern (UpTo n a) (UpTo m b) = nat_eq n m && is_set a b
 is_pattern p q = false
 
 -- is q the pattern p, or one of its alternatives?
@@ -34,8 +40,10 @@ holds Never q = is_pattern Never q
 holds Empty q = is_pattern Empty q
 holds (One a) q = is_pattern (One a) q
 holds (Many a) q = is_pattern (Many a) q
-holds (Then a b) q = is_pattern (Then a b) q
+holds (Then a b) q = is_pattern (Then a b) q || (fits a [] && holds b q)
 holds (Closed b) q = is_pattern (Closed b) q
+holds (Star a) q = is_pattern (Star a) q
+holds (UpTo n a) q = is_pattern (UpTo n a) q
 
 -- is it the pattern `Never`?
 abbrev pub is_never : Pattern → Bool
@@ -46,6 +54,8 @@ is_never (Many a) = false
 is_never (Either p q) = false
 is_never (Then p q) = false
 is_never (Closed b) = false
+is_never (Star p) = false
+is_never (UpTo n a) = false
 
 -- is it the pattern `Empty`?
 abbrev pub is_blank : Pattern → Bool
@@ -56,6 +66,8 @@ is_blank (Many a) = false
 is_blank (Either p q) = false
 is_blank (Then p q) = false
 is_blank (Closed b) = false
+is_blank (Star p) = false
+is_blank (UpTo n a) = false
 
 -- a pattern that fits what p fits and what q fits
 abbrev pub either : Pattern → Pattern → Pattern
@@ -73,6 +85,9 @@ derive x (One set) = if has set x then Empty else Never
 derive x (Many set) = if has set x then Many set else Never
 derive x (Either p q) = either (derive x p) (derive x q)
 derive x (Then p q) = either (followed (derive x p) q) (if fits p [] then derive x q else Never)
+derive x (Star p) = followed (derive x p) (Star p)
+derive x (UpTo zero set) = Never
+derive x (UpTo (suc n) set) = if has set x then UpTo n set else Never
 derive x (Closed starred) = if starred && is_class x class.Slash then Empty else (if has in_text x then Closed (is_class x class.Star) else Never)
 
 -- what is left of a table once a character has been read, without the rows of which `Never` is left
@@ -86,6 +101,32 @@ derived x (r ∷ rows) =
 abbrev pub after_all : List Class → List Row → List Row
 after_all [] rows = rows
 after_all (x ∷ s) rows = after_all s (derived x rows)
+
+-- a way to what an escape stands in
+abbrev pub path_to : Holder → List Class
+path_to holder.Name = class.Letter ∷ []
+path_to holder.AtName = class.At ∷ class.Letter ∷ []
+path_to holder.HashName = class.Hash ∷ class.Letter ∷ []
+path_to holder.Unit = class.Digit ∷ class.Letter ∷ []
+path_to holder.DoubleQuoted = class.DoubleQuote ∷ []
+path_to holder.SingleQuoted = class.SingleQuote ∷ []
+path_to holder.UrlText = class.Letter ∷ []
+
+-- and from there into the escape
+abbrev pub path_in : Escape → List Class
+path_in escape.Begun = class.Backslash ∷ []
+path_in escape.Hex1 = class.Backslash ∷ class.Hex ∷ []
+path_in escape.Hex2 = class.Backslash ∷ class.Hex ∷ class.Hex ∷ []
+path_in escape.Hex3 = class.Backslash ∷ class.Hex ∷ class.Hex ∷ class.Hex ∷ []
+path_in escape.Hex4 = class.Backslash ∷ class.Hex ∷ class.Hex ∷ class.Hex ∷ class.Hex ∷ []
+path_in escape.Hex5 = class.Backslash ∷ class.Hex ∷ class.Hex ∷ class.Hex ∷ class.Hex ∷ class.Hex ∷ []
+path_in escape.Hex6 = class.Backslash ∷ class.Hex ∷ class.Hex ∷ class.Hex ∷ class.Hex ∷ class.Hex ∷ class.Hex ∷ []
+path_in escape.Return = class.Backslash ∷ class.Hex ∷ class.Return ∷ []
+
+-- the table that reads it
+abbrev pub table_of : Holder → List Row
+table_of holder.UrlText = url_table
+table_of h = table
 
 -- what is left of the table in each state
 abbrev pub rows : State → List Row
@@ -124,13 +165,16 @@ rows state.UrlStart = after_all ([]) url_table
 rows state.UrlWhite = after_all (class.Blank ∷ []) url_table
 rows state.UrlText = after_all (class.Letter ∷ []) url_table
 rows state.UrlAfter = after_all (class.Letter ∷ class.Blank ∷ []) url_table
+rows (state.Escaped h e) = after_all (path_to h ++ path_in e) (table_of h)
 rows (state.End k) = row k Empty ∷ []
 rows state.Dead = []
 
 -- the state after the first character of a token
 abbrev pub from_start : Class → State
 from_start class.Blank = state.White
-from_start class.Newline = state.White
+from_start class.Feed = state.White
+from_start class.Return = state.White
+from_start class.FormFeed = state.White
 from_start class.DoubleQuote = state.DoubleQuoted
 from_start class.SingleQuote = state.SingleQuoted
 from_start class.Hash = state.Hash
@@ -141,6 +185,7 @@ from_start class.Slash = state.Slash
 from_start class.Digit = state.Integer
 from_start class.Exponent = state.Name
 from_start class.Letter = state.Name
+from_start class.Hex = state.Name
 from_start class.High = state.Name
 from_start class.Less = state.Less
 from_start class.At = state.At
@@ -156,12 +201,15 @@ from_start class.Greater = state.End kind.Delim
 from_start class.Bang = state.End kind.Delim
 from_start class.Percent = state.End kind.Delim
 from_start class.Symbol = state.End kind.Delim
+from_start class.Backslash = state.Escaped holder.Name escape.Begun
 from_start c = state.Dead
 
 -- the state after a further character of white space, a comment, a string or `<!--`
 abbrev pub from_text : State → Class → State
 from_text state.White class.Blank = state.White
-from_text state.White class.Newline = state.White
+from_text state.White class.Feed = state.White
+from_text state.White class.Return = state.White
+from_text state.White class.FormFeed = state.White
 from_text state.White c = state.Dead
 from_text state.Slash class.Star = state.Comment
 from_text state.Slash c = state.Dead
@@ -173,13 +221,17 @@ from_text state.CommentStar class.Star = state.CommentStar
 from_text state.CommentStar class.Control = state.Dead
 from_text state.CommentStar c = state.Comment
 from_text state.DoubleQuoted class.DoubleQuote = state.End kind.String
-from_text state.DoubleQuoted class.Newline = state.Dead
-from_text state.DoubleQuoted class.Backslash = state.Dead
+from_text state.DoubleQuoted class.Feed = state.Dead
+from_text state.DoubleQuoted class.Return = state.Dead
+from_text state.DoubleQuoted class.FormFeed = state.Dead
+from_text state.DoubleQuoted class.Backslash = state.Escaped holder.DoubleQuoted escape.Begun
 from_text state.DoubleQuoted class.Control = state.Dead
 from_text state.DoubleQuoted c = state.DoubleQuoted
 from_text state.SingleQuoted class.SingleQuote = state.End kind.String
-from_text state.SingleQuoted class.Newline = state.Dead
-from_text state.SingleQuoted class.Backslash = state.Dead
+from_text state.SingleQuoted class.Feed = state.Dead
+from_text state.SingleQuoted class.Return = state.Dead
+from_text state.SingleQuoted class.FormFeed = state.Dead
+from_text state.SingleQuoted class.Backslash = state.Escaped holder.SingleQuoted escape.Begun
 from_text state.SingleQuoted class.Control = state.Dead
 from_text state.SingleQuoted c = state.SingleQuoted
 from_text state.Less class.Bang = state.LessBang
@@ -195,52 +247,68 @@ abbrev pub from_name : State → Class → State
 from_name state.Minus class.Minus = state.MinusMinus
 from_name state.Minus class.Exponent = state.Name
 from_name state.Minus class.Letter = state.Name
+from_name state.Minus class.Hex = state.Name
 from_name state.Minus class.High = state.Name
 from_name state.Minus class.Digit = state.Integer
 from_name state.Minus class.Dot = state.Point
+from_name state.Minus class.Backslash = state.Escaped holder.Name escape.Begun
 from_name state.Minus c = state.Dead
 from_name state.MinusMinus class.Exponent = state.Name
 from_name state.MinusMinus class.Letter = state.Name
+from_name state.MinusMinus class.Hex = state.Name
 from_name state.MinusMinus class.High = state.Name
 from_name state.MinusMinus class.Digit = state.Name
 from_name state.MinusMinus class.Minus = state.Name
 from_name state.MinusMinus class.OpenParen = state.End kind.Function
 from_name state.MinusMinus class.Greater = state.End kind.Cdc
+from_name state.MinusMinus class.Backslash = state.Escaped holder.Name escape.Begun
 from_name state.MinusMinus c = state.Dead
 from_name state.Name class.Exponent = state.Name
 from_name state.Name class.Letter = state.Name
+from_name state.Name class.Hex = state.Name
 from_name state.Name class.High = state.Name
 from_name state.Name class.Digit = state.Name
 from_name state.Name class.Minus = state.Name
 from_name state.Name class.OpenParen = state.End kind.Function
+from_name state.Name class.Backslash = state.Escaped holder.Name escape.Begun
 from_name state.Name c = state.Dead
 from_name state.At class.Minus = state.AtMinus
 from_name state.At class.Exponent = state.AtName
 from_name state.At class.Letter = state.AtName
+from_name state.At class.Hex = state.AtName
 from_name state.At class.High = state.AtName
+from_name state.At class.Backslash = state.Escaped holder.AtName escape.Begun
 from_name state.At c = state.Dead
 from_name state.AtMinus class.Minus = state.AtName
 from_name state.AtMinus class.Exponent = state.AtName
 from_name state.AtMinus class.Letter = state.AtName
+from_name state.AtMinus class.Hex = state.AtName
 from_name state.AtMinus class.High = state.AtName
+from_name state.AtMinus class.Backslash = state.Escaped holder.AtName escape.Begun
 from_name state.AtMinus c = state.Dead
 from_name state.AtName class.Exponent = state.AtName
 from_name state.AtName class.Letter = state.AtName
+from_name state.AtName class.Hex = state.AtName
 from_name state.AtName class.High = state.AtName
 from_name state.AtName class.Digit = state.AtName
 from_name state.AtName class.Minus = state.AtName
+from_name state.AtName class.Backslash = state.Escaped holder.AtName escape.Begun
 from_name state.AtName c = state.Dead
 from_name state.Hash class.Exponent = state.HashName
 from_name state.Hash class.Letter = state.HashName
+from_name state.Hash class.Hex = state.HashName
 from_name state.Hash class.High = state.HashName
 from_name state.Hash class.Digit = state.HashName
 from_name state.Hash class.Minus = state.HashName
+from_name state.Hash class.Backslash = state.Escaped holder.HashName escape.Begun
 from_name state.Hash c = state.Dead
 from_name state.HashName class.Exponent = state.HashName
 from_name state.HashName class.Letter = state.HashName
+from_name state.HashName class.Hex = state.HashName
 from_name state.HashName class.High = state.HashName
 from_name state.HashName class.Digit = state.HashName
 from_name state.HashName class.Minus = state.HashName
+from_name state.HashName class.Backslash = state.Escaped holder.HashName escape.Begun
 from_name state.HashName c = state.Dead
 from_name s c = state.Dead
 
@@ -257,27 +325,35 @@ from_number state.Integer class.Digit = state.Integer
 from_number state.Integer class.Dot = state.Point
 from_number state.Integer class.Exponent = state.Exponent
 from_number state.Integer class.Letter = state.Unit
+from_number state.Integer class.Hex = state.Unit
 from_number state.Integer class.High = state.Unit
 from_number state.Integer class.Minus = state.UnitMinus
 from_number state.Integer class.Percent = state.End kind.Percentage
+from_number state.Integer class.Backslash = state.Escaped holder.Unit escape.Begun
 from_number state.Integer c = state.Dead
 from_number state.Fraction class.Digit = state.Fraction
 from_number state.Fraction class.Exponent = state.Exponent
 from_number state.Fraction class.Letter = state.Unit
+from_number state.Fraction class.Hex = state.Unit
 from_number state.Fraction class.High = state.Unit
 from_number state.Fraction class.Minus = state.UnitMinus
 from_number state.Fraction class.Percent = state.End kind.Percentage
+from_number state.Fraction class.Backslash = state.Escaped holder.Unit escape.Begun
 from_number state.Fraction c = state.Dead
 from_number state.UnitMinus class.Minus = state.Unit
 from_number state.UnitMinus class.Exponent = state.Unit
 from_number state.UnitMinus class.Letter = state.Unit
+from_number state.UnitMinus class.Hex = state.Unit
 from_number state.UnitMinus class.High = state.Unit
+from_number state.UnitMinus class.Backslash = state.Escaped holder.Unit escape.Begun
 from_number state.UnitMinus c = state.Dead
 from_number state.Unit class.Exponent = state.Unit
 from_number state.Unit class.Letter = state.Unit
+from_number state.Unit class.Hex = state.Unit
 from_number state.Unit class.High = state.Unit
 from_number state.Unit class.Digit = state.Unit
 from_number state.Unit class.Minus = state.Unit
+from_number state.Unit class.Backslash = state.Escaped holder.Unit escape.Begun
 from_number state.Unit c = state.Dead
 from_number s c = state.Dead
 
@@ -288,7 +364,9 @@ from_exponent state.Exponent class.Plus = state.ExponentPlus
 from_exponent state.Exponent class.Minus = state.ExponentMinus
 from_exponent state.Exponent class.Exponent = state.Unit
 from_exponent state.Exponent class.Letter = state.Unit
+from_exponent state.Exponent class.Hex = state.Unit
 from_exponent state.Exponent class.High = state.Unit
+from_exponent state.Exponent class.Backslash = state.Escaped holder.Unit escape.Begun
 from_exponent state.Exponent c = state.Dead
 from_exponent state.ExponentPlus class.Digit = state.PlusDigits
 from_exponent state.ExponentPlus c = state.Dead
@@ -296,64 +374,127 @@ from_exponent state.ExponentMinus class.Digit = state.ExponentDigits
 from_exponent state.ExponentMinus class.Minus = state.Unit
 from_exponent state.ExponentMinus class.Exponent = state.Unit
 from_exponent state.ExponentMinus class.Letter = state.Unit
+from_exponent state.ExponentMinus class.Hex = state.Unit
 from_exponent state.ExponentMinus class.High = state.Unit
+from_exponent state.ExponentMinus class.Backslash = state.Escaped holder.Unit escape.Begun
 from_exponent state.ExponentMinus c = state.Dead
 from_exponent state.ExponentDigits class.Digit = state.ExponentDigits
 from_exponent state.ExponentDigits class.Exponent = state.Unit
 from_exponent state.ExponentDigits class.Letter = state.Unit
+from_exponent state.ExponentDigits class.Hex = state.Unit
 from_exponent state.ExponentDigits class.High = state.Unit
 from_exponent state.ExponentDigits class.Minus = state.ExponentDash
 from_exponent state.ExponentDigits class.Percent = state.End kind.Percentage
+from_exponent state.ExponentDigits class.Backslash = state.Escaped holder.Unit escape.Begun
 from_exponent state.ExponentDigits c = state.Dead
 from_exponent state.ExponentDash class.Exponent = state.Unit
 from_exponent state.ExponentDash class.Letter = state.Unit
+from_exponent state.ExponentDash class.Hex = state.Unit
 from_exponent state.ExponentDash class.High = state.Unit
 from_exponent state.ExponentDash class.Digit = state.Unit
 from_exponent state.ExponentDash class.Minus = state.Unit
+from_exponent state.ExponentDash class.Backslash = state.Escaped holder.Unit escape.Begun
 from_exponent state.ExponentDash c = state.Dead
 from_exponent state.PlusDigits class.Digit = state.PlusDigits
 from_exponent state.PlusDigits class.Exponent = state.Unit
 from_exponent state.PlusDigits class.Letter = state.Unit
+from_exponent state.PlusDigits class.Hex = state.Unit
 from_exponent state.PlusDigits class.High = state.Unit
 from_exponent state.PlusDigits class.Minus = state.UnitMinus
 from_exponent state.PlusDigits class.Percent = state.End kind.Percentage
+from_exponent state.PlusDigits class.Backslash = state.Escaped holder.Unit escape.Begun
 from_exponent state.PlusDigits c = state.Dead
 from_exponent s c = state.Dead
 
 -- the state after a further character of the inside of a Url
 abbrev pub from_url : State → Class → State
 from_url state.UrlStart class.Blank = state.UrlWhite
-from_url state.UrlStart class.Newline = state.UrlWhite
+from_url state.UrlStart class.Feed = state.UrlWhite
+from_url state.UrlStart class.Return = state.UrlWhite
+from_url state.UrlStart class.FormFeed = state.UrlWhite
 from_url state.UrlStart class.CloseParen = state.End kind.Url
 from_url state.UrlStart class.DoubleQuote = state.Dead
 from_url state.UrlStart class.SingleQuote = state.Dead
 from_url state.UrlStart class.OpenParen = state.Dead
-from_url state.UrlStart class.Backslash = state.Dead
+from_url state.UrlStart class.Backslash = state.Escaped holder.UrlText escape.Begun
 from_url state.UrlStart class.Control = state.Dead
 from_url state.UrlStart c = state.UrlText
 from_url state.UrlWhite class.Blank = state.UrlWhite
-from_url state.UrlWhite class.Newline = state.UrlWhite
+from_url state.UrlWhite class.Feed = state.UrlWhite
+from_url state.UrlWhite class.Return = state.UrlWhite
+from_url state.UrlWhite class.FormFeed = state.UrlWhite
 from_url state.UrlWhite class.CloseParen = state.End kind.Url
 from_url state.UrlWhite class.DoubleQuote = state.Dead
 from_url state.UrlWhite class.SingleQuote = state.Dead
 from_url state.UrlWhite class.OpenParen = state.Dead
-from_url state.UrlWhite class.Backslash = state.Dead
+from_url state.UrlWhite class.Backslash = state.Escaped holder.UrlText escape.Begun
 from_url state.UrlWhite class.Control = state.Dead
 from_url state.UrlWhite c = state.UrlText
 from_url state.UrlText class.Blank = state.UrlAfter
-from_url state.UrlText class.Newline = state.UrlAfter
+from_url state.UrlText class.Feed = state.UrlAfter
+from_url state.UrlText class.Return = state.UrlAfter
+from_url state.UrlText class.FormFeed = state.UrlAfter
 from_url state.UrlText class.CloseParen = state.End kind.Url
 from_url state.UrlText class.DoubleQuote = state.Dead
 from_url state.UrlText class.SingleQuote = state.Dead
 from_url state.UrlText class.OpenParen = state.Dead
-from_url state.UrlText class.Backslash = state.Dead
+from_url state.UrlText class.Backslash = state.Escaped holder.UrlText escape.Begun
 from_url state.UrlText class.Control = state.Dead
 from_url state.UrlText c = state.UrlText
 from_url state.UrlAfter class.Blank = state.UrlAfter
-from_url state.UrlAfter class.Newline = state.UrlAfter
+from_url state.UrlAfter class.Feed = state.UrlAfter
+from_url state.UrlAfter class.Return = state.UrlAfter
+from_url state.UrlAfter class.FormFeed = state.UrlAfter
 from_url state.UrlAfter class.CloseParen = state.End kind.Url
 from_url state.UrlAfter c = state.Dead
 from_url s c = state.Dead
+
+-- where the escape stands
+abbrev pub around : Holder → State
+around holder.Name = state.Name
+around holder.AtName = state.AtName
+around holder.HashName = state.HashName
+around holder.Unit = state.Unit
+around holder.DoubleQuoted = state.DoubleQuoted
+around holder.SingleQuoted = state.SingleQuoted
+around holder.UrlText = state.UrlText
+
+-- does it stand in a string?
+abbrev pub in_quotes : Holder → Bool
+in_quotes holder.DoubleQuoted = true
+in_quotes holder.SingleQuoted = true
+in_quotes i = false
+
+-- the state after a further character that is no part of the escape
+abbrev pub from_around : Holder → Class → State
+from_around holder.Name c = from_name state.Name c
+from_around holder.AtName c = from_name state.AtName c
+from_around holder.HashName c = from_name state.HashName c
+from_around holder.Unit c = from_number state.Unit c
+from_around holder.DoubleQuoted c = from_text state.DoubleQuoted c
+from_around holder.SingleQuoted c = from_text state.SingleQuoted c
+from_around holder.UrlText c = from_url state.UrlText c
+
+-- the state after one digit more, or after what ends the escape
+abbrev pub from_digits : Holder → State → Class → State
+from_digits i more c =
+    if has hex c then more
+    else (if is_class c class.Return then state.Escaped i escape.Return
+    else (if has white c then around i else from_around i c))
+
+-- the state after a further character of an escape
+abbrev pub from_escape : Holder → Escape → Class → State
+from_escape i escape.Begun c =
+    if has hex c then state.Escaped i escape.Hex1
+    else (if is_class c class.Control then state.Dead
+    else (if has newline c then (if in_quotes i then (if is_class c class.Return then state.Escaped i escape.Return else around i) else state.Dead) else around i))
+from_escape i escape.Hex1 c = from_digits i (state.Escaped i escape.Hex2) c
+from_escape i escape.Hex2 c = from_digits i (state.Escaped i escape.Hex3) c
+from_escape i escape.Hex3 c = from_digits i (state.Escaped i escape.Hex4) c
+from_escape i escape.Hex4 c = from_digits i (state.Escaped i escape.Hex5) c
+from_escape i escape.Hex5 c = from_digits i (state.Escaped i escape.Hex6) c
+from_escape i escape.Hex6 c = if is_class c class.Return then state.Escaped i escape.Return else (if has white c then around i else from_around i c)
+from_escape i escape.Return c = if is_class c class.Feed then around i else from_around i c
 
 -- the state after one more character
 abbrev pub next : State → Class → State
@@ -392,8 +533,20 @@ next state.UrlStart c = from_url state.UrlStart c
 next state.UrlWhite c = from_url state.UrlWhite c
 next state.UrlText c = from_url state.UrlText c
 next state.UrlAfter c = from_url state.UrlAfter c
+next (state.Escaped i e) c = from_escape i e c
 next (state.End k) c = state.Dead
 next state.Dead c = state.Dead
+
+-- the kind of what has been read, where it ends in an escape
+abbrev pub ended_escape : Holder → Escape → Option Kind
+ended_escape i escape.Begun = None
+ended_escape holder.Name e = Some kind.Ident
+ended_escape holder.AtName e = Some kind.At
+ended_escape holder.HashName e = Some kind.Hash
+ended_escape holder.Unit e = Some kind.Dimension
+ended_escape holder.DoubleQuoted e = None
+ended_escape holder.SingleQuoted e = None
+ended_escape holder.UrlText e = None
 
 -- the kind of what has been read, before this text
 abbrev pub ended : State → List Class → Option Kind
@@ -417,5 +570,6 @@ ended state.Exponent after = Some kind.Dimension
 ended state.ExponentMinus after = Some kind.Dimension
 ended state.ExponentDash after = Some kind.Dimension
 ended state.Unit after = Some kind.Dimension
+ended (state.Escaped i e) after = ended_escape i e
 ended (state.End k) after = Some k
 ended s after = None

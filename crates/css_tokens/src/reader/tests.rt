@@ -1,11 +1,10 @@
-use super::{TokenFault, is_plain_text, tokens};
+use super::{TokenFault, tokens};
 use std::alloc::Global;
 use std::test::Fail;
 
 /// The tokens of a text, each as `[Kind place characters]`.
-fn shown(alloc: Global, text: &str) -> Result<String, TokenFault> {
-    let bytes = text.as_bytes();
-    if bytes.len() > 100 || !is_plain_text(bytes) {
+fn shown(alloc: Global, bytes: &[u8]) -> Result<String, TokenFault> {
+    if bytes.len() > 100 {
         return Err(TokenFault::Memory);
     }
     let list = match tokens(alloc, bytes) {
@@ -21,8 +20,8 @@ fn shown(alloc: Global, text: &str) -> Result<String, TokenFault> {
 }
 
 /// The place of the fault of a text.
-fn fault(alloc: Global, text: &str) -> Option<u32> {
-    match shown(alloc, text) {
+fn fault(alloc: Global, bytes: &[u8]) -> Option<u32> {
+    match shown(alloc, bytes) {
         Err(TokenFault::Syntax(at)) => Some(at),
         _ => None,
     }
@@ -74,9 +73,17 @@ fn reads(rt: HostRuntime) -> Result<(), Fail> {
             "curl(a b",
             "[Function 0 curl(][Ident 5 a][White 6  ][Ident 7 b]",
         ),
+        ("\\31 0", "[Ident 0 \\31 0]"),
+        ("é\\26 b", "[Ident 0 é\\26 b]"),
+        ("\"a\\\nb\"", "[String 0 \"a\\\nb\"]"),
+        ("url(\\)  )", "[Url 0 url(\\)  )]"),
+        ("\\75 rl(a)", "[Url 0 \\75 rl(a)]"),
+        ("\u{feff}a", "[Ident 3 a]"),
+        ("\u{feff}\u{feff}", "[Ident 3 \u{feff}]"),
+        ("\u{feff}", ""),
     ];
     for (text, want) in cases {
-        assert_eq!(rt; shown(rt.alloc(), text)?.as_str(), want);
+        assert_eq!(rt; shown(rt.alloc(), text.as_bytes())?.as_str(), want);
     }
     Ok(())
 }
@@ -95,8 +102,39 @@ fn stops(rt: HostRuntime) {
         ("-->\x01", 3),
         ("\"a\n\x7f", 3),
         ("a\x0b", 1),
+        ("a\\\n", 1),
+        ("\u{feff}a\x01", 4),
     ];
     for (text, want) in cases {
-        assert_eq!(rt; fault(rt.alloc(), text), Some(want), "at {text}");
+        assert_eq!(rt; fault(rt.alloc(), text.as_bytes()), Some(want), "at {text}");
     }
+}
+
+#[test]
+fn stops_at_bytes(rt: HostRuntime) {
+    let cases: [(&[u8], u32); 6] = [
+        (b"a\xc3", 1),
+        (b"\xed\xa0\x80", 0),
+        (b"\xf4\x90\x80\x80", 0),
+        (b"\xf5\x80\x80\x80", 0),
+        (b"a\x01\xc3", 1),
+        (b"ab\xc3\x01", 2),
+    ];
+    for (bytes, want) in cases {
+        assert_eq!(rt; fault(rt.alloc(), bytes), Some(want));
+    }
+}
+
+#[test]
+fn reads_a_long_text(rt: HostRuntime) -> Result<(), Fail> {
+    let mut text = String::new(rt.alloc());
+    for _ in 0..20_000 {
+        text.push_str("é\\31 a ")?;
+    }
+    let bytes = text.as_bytes();
+    if bytes.len() < 1_000_000 {
+        let list = tokens(rt.alloc(), bytes)?;
+        assert_eq!(rt; list.len(), 40_000);
+    }
+    Ok(())
 }

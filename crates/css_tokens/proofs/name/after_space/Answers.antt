@@ -1,7 +1,7 @@
 use Rattle.std.proofs.Common.{◌≡◌, ◌<◌, length, get_or, rules, true}
 use Rattle.std.specs.Str.{IsUtf8}
 use Rattle.std.proofs.lemmas.Str.{IsCharBoundary-after_ascii}
-use Rattle.css_tokens.specs.Names.{is_space}
+use Rattle.css_tokens.specs.Contents.{is_space}
 use Rattle.css_tokens.proofs.NameLemmas.{is_space-ascii}
 use Rattle.css_tokens.proofs.name.after_space.Goals as goal
 

@@ -1,7 +1,7 @@
 use Rattle.std.proofs.Common.{◌+◌, drop, arith}
 use Rattle.std.proofs.lemmas.Grind.{common_steps}
 use Rattle.css_tokens.specs.Tokens.{classes_of}
-use Rattle.css_tokens.proofs.Fronts.{read_turn, read_end}
+use Rattle.css_tokens.proofs.Fronts.{read_turn, read_end, read_last}
 use Rattle.css_tokens.proofs.reader.longest_front.Goals as goal
 
 pub returns-in-Dead-clause-value : goal.returns-in-Dead-clause-value
@@ -14,3 +14,6 @@ loop-i-preserved c = record {
   value = read_turn _ _ c.args.text.now c.loop-i.i _ _ _ _ _ (omega arith) c.loop-i.invariant.value c.kind_at.ensures c.better-best.ensures c.classify.ensures c.step-state.ensures;
   within = grind (arith, common_steps);
 }
+
+pub returns-clause-value : goal.returns-clause-value
+returns-clause-value c = read_last _ c.args.text.now c.loop-i.i _ _ _ _ (omega arith) c.loop-i.invariant.value c.kind_at-2.ensures c.better.ensures

@@ -1,5 +1,6 @@
 use Rattle.std.proofs.Common.{length, ap, sym, ◌∙◌}
 use Rattle.css_tokens.specs.Piece.{Piece}
+use Rattle.css_tokens.proofs.Boundaries.{first_boundary}
 use Rattle.css_tokens.proofs.Reading.{begins_by, stops_by}
 use Rattle.css_tokens.proofs.Spelling.{spells_by}
 use Rattle.css_tokens.proofs.reader.next_token.Goals as goal
@@ -21,3 +22,9 @@ returns-clause-token c =
     (ap (λ (p : Piece). p.kind) c.new.ensures)
     (ap (λ (p : Piece). p.text) c.new.ensures ∙ c.split_at.ensures.front)
     (ap (λ (p : Piece). length p.text) c.new.ensures ∙ c.split_at.ensures.front_len)
+    (first_boundary c.args.text.now (c.in_ok-kind.kind, c.in_ok-kind.length) c.utf8.text h.value)
+
+pub split_at-requires : goal.split_at-requires
+split_at-requires c =
+    let h = rw c.as_bytes.ensures.value at c.in_ok-kind.ensures in
+    first_boundary c.args.text.now (c.in_ok-kind.kind, c.in_ok-kind.length) c.utf8.text h.value
