@@ -15,6 +15,7 @@ pub mod OneReading
 pub mod Reading
 pub mod Runs
 mod Scans
+pub mod Said
 pub mod Spelling
 pub mod Stays
 pub mod Takes

@@ -60,6 +60,14 @@ never b = false
 abbrev pub is_paren : ℕ → Bool
 is_paren b = b == 40
 
+-- the quote ends the content of a String
+abbrev pub is_quote : ℕ → ℕ → Bool
+is_quote quote b = b == quote
+
+-- white space or `)` ends the address of a Url
+abbrev pub ends_url : ℕ → Bool
+ends_url b = is_space b || b == 41
+
 -- is the content, up to a `(`, the name `url` in any case of ASCII letters?
 abbrev pub is_url_name : List ℕ → Bool
 is_url_name text = pointwise nat_eq (map to_ascii_lowercase (content is_paren text)) (codes "url")

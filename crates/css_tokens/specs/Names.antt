@@ -1,10 +1,10 @@
 -- The name that a token holds (CSS Syntax 3, section 4).
-use Rattle.std.specs.Prelude.{ℕ, List, [], ◌∷◌, reverse, not, ◌&&◌, Bool, true, false, ◌==◌, if◌then◌else◌}
+use Rattle.std.specs.Prelude.{ℕ, List, [], ◌∷◌, not, ◌&&◌, Bool, true, false, ◌==◌, if◌then◌else◌}
 use Rattle.css_tokens.specs.declared.kind.Kind.{Kind}
 use Rattle.css_tokens.specs.declared.kind.Kind.TheVariants.{White, Comment, Ident, Function, Url, At, Hash, String, Number, Percentage, Dimension, Colon, Semicolon, Comma, Open, Close, Delim, Cdo, Cdc}
 use Rattle.std.specs.List.{list_all}
 use Rattle.std.specs.Str.{chars, is_utf8}
-use Rattle.css_tokens.specs.Contents.{is_space}
+use Rattle.css_tokens.specs.Contents.{content, ends_url, is_paren, is_quote, is_space, never}
 
 -- is it a name: not empty, in UTF-8, and without U+0000?
 abbrev pub is_name : List ℕ → Bool
@@ -38,10 +38,6 @@ abbrev pub after_byte : ℕ → List ℕ → List ℕ
 after_byte byte [] = []
 after_byte byte (b ∷ bs) = if b == byte then bs else b ∷ bs
 
--- the text without this byte at its end
-abbrev pub before_byte : ℕ → List ℕ → List ℕ
-before_byte byte text = reverse (after_byte byte (reverse text))
-
 -- what follows this byte where it first stands
 abbrev pub after_first : ℕ → List ℕ → List ℕ
 after_first byte [] = []
@@ -52,25 +48,17 @@ abbrev pub after_space : List ℕ → List ℕ
 after_space [] = []
 after_space (b ∷ bs) = if is_space b then after_space bs else b ∷ bs
 
--- the text without white space at its end
-abbrev pub before_space : List ℕ → List ℕ
-before_space text = reverse (after_space (reverse text))
-
 -- the quote that a String begins with: `"` or `'`
 abbrev pub quote_of : List ℕ → ℕ
 quote_of [] = 39
 quote_of (b ∷ bs) = if b == 34 then 34 else 39
 
--- the text without this quote at its start and at its end
-abbrev pub unquoted : ℕ → List ℕ → List ℕ
-unquoted quote text = before_byte quote (after_byte quote text)
-
--- A Function without its `(`, an At without `@`, a Hash without `#`, a String without its quotes, and of a Url what
--- stands between `(` and `)` without white space at its ends.
+-- A Function up to its `(`, an At behind its `@`, a Hash behind its `#`, a String between its quotes, and of a Url what
+-- stands behind `(` and white space, up to white space or `)`: each with its escapes decoded.
 abbrev pub name_of_word : Kind → List ℕ → List ℕ
-name_of_word Function text = before_byte 40 text
-name_of_word At text = after_byte 64 text
-name_of_word Hash text = after_byte 35 text
-name_of_word String text = unquoted (quote_of text) text
-name_of_word Url text = before_space (after_space (before_byte 41 (after_first 40 text)))
-name_of_word _ text = text
+name_of_word Function text = content is_paren text
+name_of_word At text = content never (after_byte 64 text)
+name_of_word Hash text = content never (after_byte 35 text)
+name_of_word String text = content (is_quote (quote_of text)) (after_byte (quote_of text) text)
+name_of_word Url text = content ends_url (after_space (after_first 40 text))
+name_of_word _ text = content never text

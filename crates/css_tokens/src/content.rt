@@ -1,7 +1,10 @@
-ghost use Rattle.std.specs.Prelude.{◌≡◌, ◌<◌, IsTrue, IfSome, true, false, Some, None, if◌then◌else◌};
+ghost use Rattle.std.specs.Prelude.{◌≡◌, ◌<◌, ◌≤◌, ◌++◌, IsTrue, IfOk, IfSome, OnOk, string_bytes, true, false, Some, None, if◌then◌else◌};
 ghost use Rattle.std.specs.Char.{encode_utf8, digit_value, is_ascii_hexdigit};
-ghost use Rattle.css_tokens.specs.Contents.{begun, behind, behind_digits, flush, is_space, is_url_name, meant, outside, step};
-ghost use Rattle.css_tokens.specs.Private.Contents.{ends_of, escaped_text, is_bounded, is_whole, letters_after, next_letter, taken};
+ghost use Rattle.css_tokens.specs.Contents.{begun, behind, behind_digits, content, flush, is_space, is_url_name, meant, outside, step};
+ghost use Rattle.css_tokens.specs.Private.Contents.{Says, ends_of, escaped_text, is_bounded, is_over, is_whole, letters_after, next_letter, taken};
+
+use crate::{OutOfMemory, Text};
+use std::alloc::Global;
 
 /// How far an escape has been read (CSS Syntax 3, section 4.3.7).
 #[derive(Clone, Copy)]
@@ -23,6 +26,10 @@ pub(crate) enum Part {
 pub(crate) enum End {
     Never,
     Paren,
+    DoubleQuote,
+    SingleQuote,
+    /// White space, or `)`.
+    Address,
 }
 
 /// What a byte adds to a content: the character that an escape before it means, then the byte itself.
@@ -33,6 +40,14 @@ pub(crate) struct Step {
     pub is_itself: bool,
 }
 
+/// What a character adds to a content: the character that an escape before it means, then the character itself.
+#[derive(Clone, Copy)]
+struct Said {
+    part: Part,
+    escaped: Option<char>,
+    own: Option<char>,
+}
+
 impl End {
     /// Whether the byte ends the content.
     fn ends(self, byte: u8) -> bool
@@ -41,6 +56,9 @@ impl End {
         match self {
             End::Never => false,
             End::Paren => byte == b'(',
+            End::DoubleQuote => byte == b'"',
+            End::SingleQuote => byte == b'\'',
+            End::Address => is_space(byte) || byte == b')',
         }
     }
 }
@@ -188,6 +206,13 @@ impl Part {
         }
     }
 
+    /// Whether the content is over.
+    fn is_over(self) -> bool
+        ensures { result ≡ is_over self }
+    {
+        matches!(self, Part::Over)
+    }
+
     /// The character that the end of the text adds.
     pub(crate) fn flush(self) -> Option<char>
         ensures { escaped_text result ≡ flush self }
@@ -196,6 +221,106 @@ impl Part {
             Part::Digits(_, value) => Some(meant(value)),
             _ => None,
         }
+    }
+}
+
+/// What an ASCII character adds.
+fn say_ascii(part: Part, end: End, c: char) -> Said
+    requires bounded { IsTrue (is_bounded part) }
+    requires ascii { c < 128 }
+    ensures says { Says (ends_of end) part (encode_utf8 c) result }
+    ensures bounded { IsTrue (is_bounded result.part) }
+{
+    let step = part.step(end, c as u8);
+    Said {
+        part: step.part,
+        escaped: step.escaped,
+        own: if step.is_itself { Some(c) } else { None },
+    }
+}
+
+/// What a character from U+0080 on adds: none of its bytes ends a content or belongs to an escape of digits.
+fn say_high(part: Part, end: End, c: char) -> Said
+    requires { 128 ≤ c }
+    ensures says { Says (ends_of end) part (encode_utf8 c) result }
+    ensures bounded { IsTrue (is_bounded result.part) }
+{
+    let _ = end;
+    if part.is_over() {
+        return Said {
+            part,
+            escaped: None,
+            own: None,
+        };
+    }
+    Said {
+        part: Part::Outside,
+        escaped: part.flush(),
+        own: Some(c),
+    }
+}
+
+/// What a character adds.
+fn say(part: Part, end: End, c: char) -> Said
+    requires { IsTrue (is_bounded part) }
+    ensures says { Says (ends_of end) part (encode_utf8 c) result }
+    ensures bounded { IsTrue (is_bounded result.part) }
+{
+    if c.is_ascii() {
+        say_ascii(part, end, c)
+    } else {
+        say_high(part, end, c)
+    }
+}
+
+/// Appends a character, where there is one.
+fn push_some(out: &mut String, c: Option<char>) -> Result<(), OutOfMemory>
+    ensures { OnOk result (string_bytes out.new ≡ string_bytes out.old ++ escaped_text c) }
+{
+    if let Some(c) = c {
+        out.push(c)?;
+    }
+    Ok(())
+}
+
+/// The content of a text, its escapes decoded.
+fn decode(alloc: Global, text: &str, end: End) -> Result<String, OutOfMemory>
+    ensures { IfOk result (λ out. string_bytes out ≡ content (ends_of end) text.now) }
+{
+    let mut out = String::new(alloc);
+    let mut part = Part::Outside;
+    for c in text.chars() {
+        let said = say(part, end, c);
+        push_some(&mut out, said.escaped)?;
+        push_some(&mut out, said.own)?;
+        part = said.part;
+    }
+    push_some(&mut out, part.flush())?;
+    Ok(out)
+}
+
+/// The content of a text, where no `\` stands before its end. Takes no memory.
+fn plain_content(text: &str, end: End) -> Option<&str>
+    ensures { IfSome result (λ front. front.now ≡ content (ends_of end) text.now) }
+{
+    for (i, byte) in text.as_bytes().iter().enumerate() {
+        if end.ends(*byte) {
+            return Some(text.split_at(i).0);
+        }
+        if *byte == b'\\' {
+            return None;
+        }
+    }
+    Some(text)
+}
+
+/// The content of a text up to what ends it, its escapes decoded; borrowed where it has none (CSS Syntax 3, section 4.3.7).
+pub(crate) fn content<'a>(alloc: Global, text: &'a str, end: End) -> Result<Text<'a>, OutOfMemory>
+    ensures { IfOk result (λ name. name ≡ content (ends_of end) text.now) }
+{
+    match plain_content(text, end) {
+        Some(front) => Ok(Text::lent(front)),
+        None => Ok(Text::owned(decode(alloc, text, end)?)),
     }
 }
 

@@ -7,9 +7,8 @@ ghost use Rattle.css_tokens.specs.declared.kind.Kind.TheVariants as kind;
 ghost use Rattle.css_tokens.specs.declared.pairing.ComponentFault.{ComponentFault};
 ghost use Rattle.css_tokens.specs.Again.{StaysFirst, Alike, KeepsQuote, is_solid, is_stop, is_end_kind, word_from, marks, begins_none, after_ident, after_name, more_name, takes, digit, digit_or_dot};
 ghost use Rattle.css_tokens.specs.Characters.{white};
-ghost use Rattle.css_tokens.specs.Contents.{content, never};
 ghost use Rattle.css_tokens.specs.NameText.{name_text};
-ghost use Rattle.css_tokens.specs.Names.{is_name};
+ghost use Rattle.css_tokens.specs.Names.{is_name, name_of_word};
 ghost use Rattle.css_tokens.specs.Pairing.{IsBracketFault, IsMismatch, IsPaired, IsTooDeep, IsUnclosed, places_rise};
 ghost use Rattle.css_tokens.specs.Piece.{Piece, Word, spelled, word_of};
 ghost use Rattle.css_tokens.specs.Tokens.{First, IsPlaced, Reads, ReadsTo, StopsAt, classes_of, is_url, mark_length, quote_follows, spells};
@@ -88,7 +87,8 @@ pub fn values_again()
 pub fn names_spell()
     ensures ident { (n : List ℕ) → is_name n ≡ true → spells kind.Ident (name_text n) ≡ true }
     ensures hash { (n : List ℕ) → is_name n ≡ true → spells kind.Hash (codes "#" ++ name_text n) ≡ true }
-    ensures again { (n : List ℕ) → is_name n ≡ true → content never (name_text n) ≡ n }
+    ensures again { (n : List ℕ) → is_name n ≡ true → name_of_word kind.Ident (name_text n) ≡ n }
+    ensures hash_again { (n : List ℕ) → is_name n ≡ true → name_of_word kind.Hash (codes "#" ++ name_text n) ≡ n }
     ensures first { (t : List ℕ) (w : Word) → First t w → spells w.kind w.text ≡ true }
 {}
 

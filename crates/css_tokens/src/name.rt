@@ -1,7 +1,7 @@
 ghost use Rattle.std.specs.Prelude.{◌≡◌, ◌<◌, IsTrue, IfOk};
-ghost use Rattle.css_tokens.specs.Names.{has_name, after_byte, before_byte, after_first, after_space, before_space, quote_of, unquoted, name_of_word};
+ghost use Rattle.css_tokens.specs.Names.{has_name, after_byte, after_first, after_space, name_of_word};
 
-use crate::content::is_space;
+use crate::content::{End, content, is_space};
 use crate::{Kind, OutOfMemory, Text, Token};
 use std::alloc::Global;
 
@@ -12,17 +12,6 @@ fn after_byte(text: &str, byte: u8) -> &str
 {
     match text.as_bytes().first() {
         Some(first) if *first == byte => text.split_at(1).1,
-        _ => text,
-    }
-}
-
-/// The text without this byte at its end.
-fn before_byte(text: &str, byte: u8) -> &str
-    requires { byte < 128 }
-    ensures { result.now ≡ before_byte byte text.now }
-{
-    match text.as_bytes().last() {
-        Some(last) if *last == byte => text.split_at(text.len() - 1).0,
         _ => text,
     }
 }
@@ -54,51 +43,32 @@ fn after_space(text: &str) -> &str
     rest
 }
 
-/// The text without white space at its end.
-fn before_space(text: &str) -> &str
-    ensures { result.now ≡ before_space text.now }
-{
-    let mut rest = text;
-    while let Some(last) = rest.as_bytes().last() {
-        if !is_space(*last) {
-            return rest;
-        }
-        rest = rest.split_at(rest.len() - 1).0;
-    }
-    rest
-}
-
-/// The quote that a String begins with.
-fn quote_of(text: &str) -> u8
-    ensures value { result ≡ quote_of text.now }
-    ensures ascii { result < 128 }
+/// The content of a String between its quotes.
+fn string_content<'a>(alloc: Global, text: &'a str) -> Result<Text<'a>, OutOfMemory>
+    ensures { IfOk result (λ name. name ≡ name_of_word Kind.String text.now) }
 {
     match text.as_bytes().first() {
-        Some(b'"') => b'"',
-        _ => b'\'',
+        Some(b'"') => content(alloc, after_byte(text, b'"'), End::DoubleQuote),
+        _ => content(alloc, after_byte(text, b'\''), End::SingleQuote),
     }
 }
 
-/// The name that a token holds: a Function without `(`, an At without `@`, a Hash without `#`, the content of a String,
-/// the address of a Url. (CSS Syntax 3, section 4.3.)
+/// The name that a token holds, its escapes decoded: a Function without `(`, an At without `@`, a Hash without `#`, the
+/// content of a String without its quotes and escaped newlines, the address of a Url. Takes memory only where the token
+/// has a `\`. (CSS Syntax 3, section 4.3.)
 pub fn name_of<'a>(alloc: Global, token: &Token<'a>) -> Result<Text<'a>, OutOfMemory>
     requires { IsTrue (has_name token.now.kind) }
     ensures { IfOk result (λ name. name ≡ name_of_word token.now.kind token.now.text) }
 {
     let text = token.text;
-    let name = match token.kind {
-        Kind::Function => before_byte(text, b'('),
-        Kind::At => after_byte(text, b'@'),
-        Kind::Hash => after_byte(text, b'#'),
-        Kind::String => {
-            let quote = quote_of(text);
-            before_byte(after_byte(text, quote), quote)
-        }
-        Kind::Url => before_space(after_space(before_byte(after_first(text, b'('), b')'))),
-        _ => text,
-    };
-    let _ = alloc;
-    Ok(Text::lent(name))
+    match token.kind {
+        Kind::Function => content(alloc, text, End::Paren),
+        Kind::At => content(alloc, after_byte(text, b'@'), End::Never),
+        Kind::Hash => content(alloc, after_byte(text, b'#'), End::Never),
+        Kind::String => string_content(alloc, text),
+        Kind::Url => content(alloc, after_space(after_first(text, b'(')), End::Address),
+        _ => content(alloc, text, End::Never),
+    }
 }
 
 #[cfg(test)]

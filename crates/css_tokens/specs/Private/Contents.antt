@@ -1,19 +1,23 @@
 -- How a content is decoded byte by byte, and compared with `url` as it goes.
-use Rattle.std.specs.Prelude.{ℕ, zero, suc, ◌/◌, List, [], ◌∷◌, ◌++◌, Bool, true, false, ◌&&◌, ◌==◌, Option, Some, None, if◌then◌else◌, nat_lt}
+use Rattle.std.specs.Prelude.{ℕ, zero, suc, ◌/◌, List, [], ◌∷◌, ◌++◌, Bool, true, false, ◌&&◌, ◌==◌, ◌≡◌, Option, Some, None, if◌then◌else◌, nat_lt}
 use Rattle.std.specs.Char.{encode_utf8, to_ascii_lowercase}
 use Rattle.css_tokens.specs.declared.content.Part.{Part}
-use Rattle.css_tokens.specs.declared.content.Part.TheVariants.{Digits}
+use Rattle.css_tokens.specs.declared.content.Part.TheVariants.{Digits, Over}
 use Rattle.css_tokens.specs.declared.content.End.{End}
 use Rattle.css_tokens.specs.declared.content.End.TheVariants as end
+use Rattle.css_tokens.specs.declared.content.Said.{Said}
 use Rattle.css_tokens.specs.declared.content.Step.{Step}
 use Rattle.css_tokens.specs.declared.content.Letters.{Letters}
 use Rattle.css_tokens.specs.declared.content.Letters.TheVariants as letters
-use Rattle.css_tokens.specs.Contents.{never, is_paren}
+use Rattle.css_tokens.specs.Contents.{content_from, ends_url, is_paren, is_quote, never}
 
 -- the bytes that end a content
 abbrev pub ends_of : End → ℕ → Bool
 ends_of end.Never = never
 ends_of end.Paren = is_paren
+ends_of end.DoubleQuote = is_quote 34
+ends_of end.SingleQuote = is_quote 39
+ends_of end.Address = ends_url
 
 -- what the value of the digits is below while so many more may come
 abbrev pub room : ℕ → ℕ
@@ -25,6 +29,11 @@ abbrev pub is_bounded : Part → Bool
 is_bounded (Digits more v) = nat_lt v (room more) && nat_lt v 0x100_0000
 is_bounded p = true
 
+-- is the content over?
+abbrev pub is_over : Part → Bool
+is_over Over = true
+is_over p = false
+
 -- the text of what an escape means, where there is one
 abbrev pub escaped_text : Option ℕ → List ℕ
 escaped_text None = []
@@ -33,6 +42,10 @@ escaped_text (Some c) = encode_utf8 c
 -- what a step says of its byte: how far the content is read, and what the byte adds
 abbrev pub taken : Step → ℕ → Part × List ℕ
 taken s b = (s.part, escaped_text s.escaped ++ (if s.is_itself then b ∷ [] else []))
+
+-- What a character says: its bytes, before any rest, add this to the content, which goes on from this part.
+abbrev pub Says : (ℕ → Bool) → Part → List ℕ → Said → Type 0
+Says ends p text said = (rest : List ℕ) → content_from ends p (text ++ rest) ≡ escaped_text said.escaped ++ (escaped_text said.own ++ content_from ends said.part rest)
 
 -- the letters of `url` after one byte more, in any case
 abbrev pub next_letter : Letters → ℕ → Letters

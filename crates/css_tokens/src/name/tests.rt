@@ -23,6 +23,12 @@ fn names_tokens(rt: HostRuntime) -> Result<(), OutOfMemory> {
         ("\"it's\"", "it's"),
         ("'a'", "a"),
         ("url(  a/b.png )", "a/b.png"),
+        ("\\31 0", "10"),
+        ("é\\26 b", "é&b"),
+        ("#\\31 \\e9", "1é"),
+        ("'a\\\r\nb\\'c'", "ab'c"),
+        ("\"\\d800 é\"", "\u{fffd}é"),
+        ("url( \\)x\\  )", ")x "),
     ];
     for (text, want) in cases {
         assert_eq!(rt; name(rt.alloc(), text)?.as_str(), want);

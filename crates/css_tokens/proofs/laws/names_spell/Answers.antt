@@ -3,4 +3,4 @@ use Rattle.css_tokens.proofs.Spelling.{first_spells}
 use Rattle.css_tokens.proofs.laws.names_spell.Goals as goal
 
 pub returns : goal.returns
-returns c = record { ident = name_spells; hash = name_hash; again = name_again; first = first_spells }
+returns c = record { ident = name_spells; hash = name_hash; again = name_again; hash_again = name_again; first = first_spells }
