@@ -9,7 +9,7 @@ use Rattle.css_tokens.specs.declared.component.Block.{Block}
 use Rattle.css_tokens.specs.Piece.{Piece, Word, word_of}
 use Rattle.css_tokens.specs.Trees.{opens, pieces_of, pieces_of-Single, is_formed, is_formed-Single, is_formed-Block, all_formed}
 use Rattle.css_tokens.specs.Values.{is_white, is_gap, before_run, single_gaps, after_gap, before_gap}
-use Rattle.css_tokens.specs.ValueAgain.{head_kind, short_piece, again, all_again, value_again, head_kind-Single, head_kind-Block, again-Single, again-Block}
+use Rattle.css_tokens.specs.ValueAgain.{head_kind, short_piece, shortened, all_shortened, value_shortened, head_kind-Single, head_kind-Block, shortened-Single, shortened-Block}
 use Rattle.css_tokens.proofs.TreeInduction.{Each, by_trees}
 use Rattle.css_tokens.proofs.Rebuilt.{both}
 
@@ -31,13 +31,13 @@ opens_solid White e = cc
 opens_solid Comment e = cc
 opens_solid _ e = refl
 
-pub head_kind-again : (c : Component) → head_kind (again c) ≡ head_kind c
-head_kind-again c = elim (shape c) [
-  | inl s ↦ subst (λ (d : Component). head_kind (again d) ≡ head_kind d) (sym s.1) (ap head_kind (again-Single s.0) ∙ head_kind-Single (short_piece s.0) ∙ sym (head_kind-Single s.0))
-  | inr s ↦ subst (λ (d : Component). head_kind (again d) ≡ head_kind d) (sym s.1) (ap head_kind (again-Block s.0) ∙ head_kind-Block (record { opening = s.0.opening; items = all_again s.0.items; close = s.0.close }) ∙ sym (head_kind-Block s.0))
+pub head_kind-shortened : (c : Component) → head_kind (shortened c) ≡ head_kind c
+head_kind-shortened c = elim (shape c) [
+  | inl s ↦ subst (λ (d : Component). head_kind (shortened d) ≡ head_kind d) (sym s.1) (ap head_kind (shortened-Single s.0) ∙ head_kind-Single (short_piece s.0) ∙ sym (head_kind-Single s.0))
+  | inr s ↦ subst (λ (d : Component). head_kind (shortened d) ≡ head_kind d) (sym s.1) (ap head_kind (shortened-Block s.0) ∙ head_kind-Block (record { opening = s.0.opening; items = all_shortened s.0.items; close = s.0.close }) ∙ sym (head_kind-Block s.0))
 ]
 
-joined : (a b : Bool) → a ≡ true → b ≡ true → (a && b) ≡ true
+pub joined : (a b : Bool) → a ≡ true → b ≡ true → (a && b) ≡ true
 joined true true e f = refl
 joined true false e f = cc
 joined false _ e f = cc
@@ -71,28 +71,28 @@ module _ {X : Type 0} (kind : X → Kind) (p : X → Bool) where
   before_gap_passes (x ∷ y ∷ ys) e = let h = both (p x) (list_all p (y ∷ ys)) e in joined (p x) (list_all p (before_gap kind (y ∷ ys))) h.0 (before_gap_passes (y ∷ ys) h.1)
 
 abbrev StaysFormed : Component → Type 0
-StaysFormed c = is_formed c ≡ true → is_formed (again c) ≡ true
+StaysFormed c = is_formed c ≡ true → is_formed (shortened c) ≡ true
 
-map_again_formed : (cs : List Component) → Each StaysFormed cs → all_formed cs ≡ true → all_formed (map again cs) ≡ true
-map_again_formed [] each e = refl
-map_again_formed (c ∷ cs) each e = let h = both (is_formed c) (all_formed cs) e in joined (is_formed (again c)) (all_formed (map again cs)) (each.0 h.0) (map_again_formed cs each.1 h.1)
+map_shortened_formed : (cs : List Component) → Each StaysFormed cs → all_formed cs ≡ true → all_formed (map shortened cs) ≡ true
+map_shortened_formed [] each e = refl
+map_shortened_formed (c ∷ cs) each e = let h = both (is_formed c) (all_formed cs) e in joined (is_formed (shortened c)) (all_formed (map shortened cs)) (each.0 h.0) (map_shortened_formed cs each.1 h.1)
 
 block_stays : (opening : Piece) (items : List Component) (close : ℕ) → Each StaysFormed items → StaysFormed (component.Block (record { opening = opening; items = items; close = close }))
 block_stays opening items close each e =
     let h = both (opens opening.kind) (all_formed items) (sym (is_formed-Block (record { opening = opening; items = items; close = close })) ∙ e) in
-    ap is_formed (again-Block (record { opening = opening; items = items; close = close })) ∙ is_formed-Block (record { opening = opening; items = all_again items; close = close })
-    ∙ joined (opens opening.kind) (all_formed (all_again items)) h.0 (single_gaps_pass head_kind is_formed (map again items) (map_again_formed items each h.1))
+    ap is_formed (shortened-Block (record { opening = opening; items = items; close = close })) ∙ is_formed-Block (record { opening = opening; items = all_shortened items; close = close })
+    ∙ joined (opens opening.kind) (all_formed (all_shortened items)) h.0 (single_gaps_pass head_kind is_formed (map shortened items) (map_shortened_formed items each h.1))
 
 stays_formed : (c : Component) → StaysFormed c
-stays_formed = by_trees StaysFormed (λ p e. ap is_formed (again-Single p) ∙ is_formed-Single (short_piece p) ∙ sym (is_formed-Single p) ∙ e) block_stays
+stays_formed = by_trees StaysFormed (λ p e. ap is_formed (shortened-Single p) ∙ is_formed-Single (short_piece p) ∙ sym (is_formed-Single p) ∙ e) block_stays
 
 each_stays : (cs : List Component) → Each StaysFormed cs
 each_stays [] = tt
 each_stays (c ∷ cs) = (stays_formed c, each_stays cs)
 
-pub all_again_formed : (cs : List Component) → all_formed cs ≡ true → all_formed (all_again cs) ≡ true
-all_again_formed cs e = single_gaps_pass head_kind is_formed (map again cs) (map_again_formed cs (each_stays cs) e)
+pub all_shortened_formed : (cs : List Component) → all_formed cs ≡ true → all_formed (all_shortened cs) ≡ true
+all_shortened_formed cs e = single_gaps_pass head_kind is_formed (map shortened cs) (map_shortened_formed cs (each_stays cs) e)
 
 -- what is printed is well formed too
-pub value_again_formed : (v : List Component) → all_formed v ≡ true → all_formed (value_again v) ≡ true
-value_again_formed v e = before_gap_passes head_kind is_formed (after_gap head_kind (all_again v)) (after_gap_passes head_kind is_formed (all_again v) (all_again_formed v e))
+pub value_shortened_formed : (v : List Component) → all_formed v ≡ true → all_formed (value_shortened v) ≡ true
+value_shortened_formed v e = before_gap_passes head_kind is_formed (after_gap head_kind (all_shortened v)) (after_gap_passes head_kind is_formed (all_shortened v) (all_shortened_formed v e))

@@ -7,14 +7,14 @@ use Rattle.css_tokens.specs.declared.component.Component as component
 use Rattle.css_tokens.specs.declared.component.Block.{Block}
 use Rattle.css_tokens.specs.Piece.{Piece, Word, word_of}
 use Rattle.css_tokens.specs.Trees.{opens, closing, words_all, is_formed, is_formed-Block, all_formed}
-use Rattle.css_tokens.specs.Values.{is_white, is_gap, before_run, after_gap, before_gap, word_kind, short_word, value_words}
-use Rattle.css_tokens.specs.ValueAgain.{head_kind, short_piece, again, all_again, value_again, head_kind-Single, head_kind-Block, again-Single, again-Block}
+use Rattle.css_tokens.specs.Values.{is_white, is_gap, before_run, after_gap, before_gap, word_kind, short_word, shortened_words}
+use Rattle.css_tokens.specs.ValueAgain.{head_kind, short_piece, shortened, all_shortened, value_shortened, head_kind-Single, head_kind-Block, shortened-Single, shortened-Block}
 use Rattle.css_tokens.proofs.TreeInduction.{Each, by_trees}
 use Rattle.css_tokens.proofs.Rebuilt.{both}
 use Rattle.css_tokens.proofs.GapLemmas.{bool_cases, run_solid, run_before_solid, run_gaps, after_gap-solid}
 use Rattle.css_tokens.proofs.ValueLemmas.{singled, singled-solid, short_word-solid}
 use Rattle.css_tokens.proofs.WritingLemmas.{words_all-cons, words_of-Block}
-use Rattle.css_tokens.proofs.AgainLemmas.{words_of, words_of-Single, shape, opens_solid, head_kind-again, all_again_formed, after_gap_passes}
+use Rattle.css_tokens.proofs.AgainLemmas.{words_of, words_of-Single, shape, opens_solid, head_kind-shortened, all_shortened_formed, after_gap_passes}
 
 -- the words do not begin with a gap
 abbrev pub IsSolidFirst : List Word → Type 0
@@ -35,7 +35,7 @@ gap_single c e g = elim (shape c) [
 ]
 
 -- the first word of a component has its kind
-first_word : (c : Component) → (w : Word) × (ws : List Word) × (words_of c ≡ w ∷ ws) × (w.kind ≡ head_kind c)
+pub first_word : (c : Component) → (w : Word) × (ws : List Word) × (words_of c ≡ w ∷ ws) × (w.kind ≡ head_kind c)
 first_word c = elim (shape c) [
   | inl s ↦ (word_of s.0, [], ap words_of s.1 ∙ words_of-Single s.0, sym (ap head_kind s.1 ∙ head_kind-Single s.0))
   | inr s ↦ (word_of s.0.opening, words_all s.0.items ++ word_of (closing s.0.opening s.0.close) ∷ [], ap words_of s.1 ∙ words_of-Block s.0, sym (ap head_kind s.1 ∙ head_kind-Block s.0))
@@ -86,9 +86,9 @@ gap_words p (c ∷ cs) rest formed e f =
 
 -- A component that is no gap, whatever follows, prints as its own words.
 abbrev PrintsApart : Component → Type 0
-PrintsApart c = is_formed c ≡ true → is_gap (head_kind c) ≡ false → (rest : List Word) → singled (words_of c ++ rest) ≡ words_of (again c) ++ singled rest
+PrintsApart c = is_formed c ≡ true → is_gap (head_kind c) ≡ false → (rest : List Word) → singled (words_of c ++ rest) ≡ words_of (shortened c) ++ singled rest
 
-all_words : (cs : List Component) → Each PrintsApart cs → all_formed cs ≡ true → (rest : List Word) → IsSolidFirst (singled rest) → singled (words_all cs ++ rest) ≡ words_all (all_again cs) ++ singled rest
+all_words : (cs : List Component) → Each PrintsApart cs → all_formed cs ≡ true → (rest : List Word) → IsSolidFirst (singled rest) → singled (words_all cs ++ rest) ≡ words_all (all_shortened cs) ++ singled rest
 all_words [] each formed rest f = refl
 all_words (c ∷ cs) each formed rest f =
     let h = both (is_formed c) (all_formed cs) formed in
@@ -99,15 +99,15 @@ all_words (c ∷ cs) each formed rest f =
           let gap : is_gap q.kind ≡ true = ap is_gap (sym (ap head_kind s.1 ∙ head_kind-Single q)) ∙ g in
           ap (λ ws. singled (ws ++ rest)) (ap (λ d. words_all (d ∷ cs)) s.1 ∙ words_single q cs)
           ∙ ap (before_run word_kind (short_word (word_of q))) inside
-          ∙ gap_words (short_piece q) (all_again cs) (singled rest) (all_again_formed cs h.1) gap f
-          ∙ ap (λ d. words_all (before_run head_kind d (all_again cs)) ++ singled rest) (sym (ap again s.1 ∙ again-Single q)))
+          ∙ gap_words (short_piece q) (all_shortened cs) (singled rest) (all_shortened_formed cs h.1) gap f
+          ∙ ap (λ d. words_all (before_run head_kind d (all_shortened cs)) ++ singled rest) (sym (ap shortened s.1 ∙ shortened-Single q)))
       | inr n ↦
           ap (λ ws. singled (ws ++ rest)) (words_all-cons c cs) ∙ ap singled (append_assoc (words_of c) (words_all cs) rest)
           ∙ each.0 h.0 n (words_all cs ++ rest)
-          ∙ ap (λ ws. words_of (again c) ++ ws) inside
-          ∙ sym (append_assoc (words_of (again c)) (words_all (all_again cs)) (singled rest))
-          ∙ ap (λ ws. ws ++ singled rest) (sym (words_all-cons (again c) (all_again cs)))
-          ∙ ap (λ ds. words_all ds ++ singled rest) (sym (run_solid head_kind (again c) (all_again cs) (ap is_gap (head_kind-again c) ∙ n)))
+          ∙ ap (λ ws. words_of (shortened c) ++ ws) inside
+          ∙ sym (append_assoc (words_of (shortened c)) (words_all (all_shortened cs)) (singled rest))
+          ∙ ap (λ ws. ws ++ singled rest) (sym (words_all-cons (shortened c) (all_shortened cs)))
+          ∙ ap (λ ds. words_all ds ++ singled rest) (sym (run_solid head_kind (shortened c) (all_shortened cs) (ap is_gap (head_kind-shortened c) ∙ n)))
     ]
 
 single_apart : (p : Piece) → PrintsApart (component.Single p)
@@ -115,7 +115,7 @@ single_apart p e f rest =
     let solid : is_gap p.kind ≡ false = ap is_gap (sym (head_kind-Single p)) ∙ f in
     ap (λ ws. singled (ws ++ rest)) (words_of-Single p) ∙ singled-solid (word_of p) rest solid
     ∙ ap (λ w. w ∷ singled rest) (sym (short_word-solid (word_of p) solid))
-    ∙ ap (λ ws. ws ++ singled rest) (sym (ap words_of (again-Single p) ∙ words_of-Single (short_piece p)))
+    ∙ ap (λ ws. ws ++ singled rest) (sym (ap words_of (shortened-Single p) ∙ words_of-Single (short_piece p)))
 
 block_apart : (opening : Piece) (items : List Component) (close : ℕ) → Each PrintsApart items → PrintsApart (component.Block (record { opening = opening; items = items; close = close }))
 block_apart opening items close each e f rest =
@@ -126,9 +126,9 @@ block_apart opening items close each e f rest =
     ∙ singled-solid (word_of opening) ((words_all items ++ last ∷ []) ++ rest) (opens_solid opening.kind h.0)
     ∙ ap (λ ws. word_of opening ∷ singled ws) (append_assoc (words_all items) (last ∷ []) rest)
     ∙ ap (λ ws. word_of opening ∷ ws) (all_words items each h.1 (last ∷ rest) (subst IsSolidFirst (sym (singled-solid last rest refl)) refl))
-    ∙ ap (λ ws. word_of opening ∷ words_all (all_again items) ++ ws) (singled-solid last rest refl)
-    ∙ ap (λ ws. word_of opening ∷ ws) (sym (append_assoc (words_all (all_again items)) (last ∷ []) (singled rest)))
-    ∙ ap (λ ws. ws ++ singled rest) (sym (ap words_of (again-Block b) ∙ words_of-Block (record { opening = opening; items = all_again items; close = close })))
+    ∙ ap (λ ws. word_of opening ∷ words_all (all_shortened items) ++ ws) (singled-solid last rest refl)
+    ∙ ap (λ ws. word_of opening ∷ ws) (sym (append_assoc (words_all (all_shortened items)) (last ∷ []) (singled rest)))
+    ∙ ap (λ ws. ws ++ singled rest) (sym (ap words_of (shortened-Block b) ∙ words_of-Block (record { opening = opening; items = all_shortened items; close = close })))
 
 apart : (c : Component) → PrintsApart c
 apart = by_trees PrintsApart single_apart block_apart
@@ -137,8 +137,8 @@ each_apart : (cs : List Component) → Each PrintsApart cs
 each_apart [] = tt
 each_apart (c ∷ cs) = (apart c, each_apart cs)
 
-pub words_again : (cs : List Component) → all_formed cs ≡ true → words_all (all_again cs) ≡ singled (words_all cs)
-words_again cs e = sym (ap singled (sym (append-nil (words_all cs))) ∙ all_words cs (each_apart cs) e [] tt ∙ append-nil (words_all (all_again cs)))
+pub words_shortened : (cs : List Component) → all_formed cs ≡ true → words_all (all_shortened cs) ≡ singled (words_all cs)
+words_shortened cs e = sym (ap singled (sym (append-nil (words_all cs))) ∙ all_words cs (each_apart cs) e [] tt ∙ append-nil (words_all (all_shortened cs)))
 
 -- cutting a gap at the start
 words_after_gap : (cs : List Component) → all_formed cs ≡ true → words_all (after_gap head_kind cs) ≡ after_gap word_kind (words_all cs)
@@ -186,9 +186,9 @@ words_before_gap (c ∷ d ∷ ds) e =
     ∙ sym (ap (before_gap word_kind) (words_all-cons c (d ∷ ds) ∙ ap (λ ws. words_of c ++ ws) form) ∙ before_gap-append (words_of c) first.0 (first.1 ++ words_all ds))
 
 -- the words of the printed components are the printed words
-pub words_value_again : (v : List Component) → all_formed v ≡ true → words_all (value_again v) ≡ value_words v
-words_value_again v e =
-    let formed = all_again_formed v e in
-    words_before_gap (after_gap head_kind (all_again v)) (after_gap_passes head_kind is_formed (all_again v) formed)
-    ∙ ap (before_gap word_kind) (words_after_gap (all_again v) formed)
-    ∙ ap (λ ws. before_gap word_kind (after_gap word_kind ws)) (words_again v e)
+pub words_value_shortened : (v : List Component) → all_formed v ≡ true → words_all (value_shortened v) ≡ shortened_words (words_all v)
+words_value_shortened v e =
+    let formed = all_shortened_formed v e in
+    words_before_gap (after_gap head_kind (all_shortened v)) (after_gap_passes head_kind is_formed (all_shortened v) formed)
+    ∙ ap (before_gap word_kind) (words_after_gap (all_shortened v) formed)
+    ∙ ap (λ ws. before_gap word_kind (after_gap word_kind ws)) (words_shortened v e)

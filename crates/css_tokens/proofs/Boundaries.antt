@@ -20,12 +20,13 @@ use Rattle.css_tokens.proofs.MachineStates.{implied, each_state}
 use Rattle.css_tokens.proofs.Runs.{run, one_more, longest-ended, ended_aside, same_inside}
 use Rattle.css_tokens.proofs.Spelling.{front_reached, front_within}
 
--- the states in which a name goes on
-abbrev is_lasting : State → Bool
+-- the states in which a name or white space goes on
+abbrev pub is_lasting : State → Bool
 is_lasting state.Name = true
 is_lasting state.AtName = true
 is_lasting state.HashName = true
 is_lasting state.Unit = true
+is_lasting state.White = true
 is_lasting s = false
 
 -- where a kind ends in a byte from 80 hexadecimal on, it goes on with a further one
@@ -40,6 +41,7 @@ lasting_ended state.Name after h = refl
 lasting_ended state.AtName after h = refl
 lasting_ended state.HashName after h = refl
 lasting_ended state.Unit after h = refl
+lasting_ended state.White after h = refl
 lasting_ended s after h = cc
 
 some_or : (found : Option (Kind × ℕ)) (here : Option Kind) → is_some here ≡ true → one_more found here ≡ None → ⊥
@@ -47,11 +49,11 @@ some_or None None h e = cc
 some_or None (Some k) h e = cc
 some_or (Some f) here h e = cc
 
-lasting_found : (s : State) (t : List Class) → is_lasting s ≡ true → longest_in s t ≡ None → ⊥
+pub lasting_found : (s : State) (t : List Class) → is_lasting s ≡ true → longest_in s t ≡ None → ⊥
 lasting_found s [] h e = some_or None (ended s []) (lasting_ended s [] h) (sym (longest_in-nil s) ∙ e)
 lasting_found s (x ∷ t) h e = some_or (longest_in (next s x) t) (ended s (x ∷ t)) (lasting_ended s (x ∷ t) h) (sym (longest_in-step s x t) ∙ e)
 
-none_later : (found : Option (Kind × ℕ)) (here : Option Kind) (k : Kind) → one_more found here ≡ Some (k, 0) → found ≡ None
+pub none_later : (found : Option (Kind × ℕ)) (here : Option Kind) (k : Kind) → one_more found here ≡ Some (k, 0) → found ≡ None
 none_later None here k h = refl
 none_later (Some f) here k h = let e : longer 1 f ≡ (k, 0) = cc in let i : f.1 + 1 ≡ 0 = ap (λ (x : Kind × ℕ). x.1) e in absurd (omega arith)
 
@@ -63,10 +65,10 @@ high_twice s t k h =
     let l : is_lasting (next r class.High) ≡ true = implied (is_some (ended r [])) (is_lasting (next r class.High)) (ap is_some e) (high_goes_on s) in
     lasting_found (next r class.High) t l (none_later (longest_in (next r class.High) t) (ended r (class.High ∷ t)) k (sym (longest_in-step r class.High t) ∙ h))
 
-high_class : (b : ℕ) → 128 ≤ b → class_of b ≡ class.High
+pub high_class : (b : ℕ) → 128 ≤ b → class_of b ≡ class.High
 high_class b h = grind (arith, nat_tests)
 
-run_last : (s : State) (t : List ℕ) (m : ℕ) → m < length t → run s (classes_of (take (suc m) t)) ≡ next (run s (classes_of (take m t))) (class_of (get_or t m 0))
+pub run_last : (s : State) (t : List ℕ) (m : ℕ) → m < length t → run s (classes_of (take (suc m) t)) ≡ next (run s (classes_of (take m t))) (class_of (get_or t m 0))
 run_last s [] m h = absurd (omega arith)
 run_last s (x ∷ t) zero h = refl
 run_last s (x ∷ t) (suc m) h = run_last (next s (class_of x)) t m (omega arith)

@@ -19,10 +19,14 @@ pub mod Said
 pub mod Spelling
 pub mod Stays
 pub mod Takes
+pub mod TakesSpace
 pub mod AgainLemmas
 pub mod AgainWords
 pub mod AppendLemmas
 pub mod PlainNameLemmas
+pub mod PartedChain
+pub mod PartedLists
+pub mod PartedWords
 pub mod PrintedAgain
 pub mod Rebuilt
 pub mod SingleGaps

@@ -63,7 +63,7 @@ module _ {X : Type 0} (kind : X → Kind) where
   single_gaps-same (x ∷ []) h = refl
   single_gaps-same (x ∷ y ∷ ys) h = ap (before_run kind x) (single_gaps-same (y ∷ ys) h.1) ∙ ap (λ b. cond b ((cond (is_white (kind x)) x y) ∷ ys) (x ∷ y ∷ ys)) h.0
 
-  no_runs_tail : (x : X) (xs : List X) → HasNoRuns (x ∷ xs) → HasNoRuns xs
+  pub no_runs_tail : (x : X) (xs : List X) → HasNoRuns (x ∷ xs) → HasNoRuns xs
   no_runs_tail x [] h = tt
   no_runs_tail x (y ∷ ys) h = h.1
 
@@ -132,7 +132,7 @@ module _ {X : Type 0} (kind : X → Kind) where
   abbrev pub solid : X → Bool
   solid x = not (is_gap (kind x))
 
-  filter_gap : (x : X) (xs : List X) → is_gap (kind x) ≡ true → filter solid (x ∷ xs) ≡ filter solid xs
+  pub filter_gap : (x : X) (xs : List X) → is_gap (kind x) ≡ true → filter solid (x ∷ xs) ≡ filter solid xs
   filter_gap x xs e = ap (λ b. cond (not b) (x ∷ filter solid xs) (filter solid xs)) e
 
   filter-before_run : (x : X) (ys : List X) → filter solid (before_run kind x ys) ≡ filter solid (x ∷ ys)

@@ -72,7 +72,7 @@ table_spells t k n h =
     or_first (names k (kind_of table (classes_of (take n t)) [])) _
     (ap (names k) (front_spelled state.Start t k n h) ∙ is_kind-refl k)
 
-inside_spelled : (u : List Class) (k : Kind) → kind_of url_table u [] ≡ Some k → (k ≡ kind.Url) × (fits url_inside u ≡ true)
+pub inside_spelled : (u : List Class) (k : Kind) → kind_of url_table u [] ≡ Some k → (k ≡ kind.Url) × (fits url_inside u ≡ true)
 inside_spelled u k h =
     elim (cases_Bool (fits url_inside u)) [
       | inl e ↦ (sym (same_inside kind.Url k (rw e at h)), e)

@@ -3,9 +3,7 @@
 use Rattle.std.proofs.Common.{◌≡◌, ℕ, List, [], ◌∷◌, ◌++◌, map, Bool, true, false, cond, ap, sym, ◌∙◌, subst, append_assoc, inl, inr, ◌⊎◌, codes}
 use Rattle.css_tokens.specs.declared.kind.Kind.{Kind}
 use Rattle.css_tokens.specs.Piece.{Word, spelled}
-use Rattle.css_tokens.specs.declared.component.Component.{Component}
-use Rattle.css_tokens.specs.Trees.{words_all}
-use Rattle.css_tokens.specs.Values.{is_white, is_gap, before_run, after_gap, before_gap, word_kind, short_word, printed_words, value_words}
+use Rattle.css_tokens.specs.Values.{is_white, is_gap, before_run, after_gap, before_gap, word_kind, short_word, shortened_words}
 use Rattle.css_tokens.proofs.GapLemmas.{bool_cases, kind_cases, run_before_solid, run_gaps, is_gap-kept, before_gap-solid}
 use Rattle.css_tokens.proofs.ValueLemmas.{space, comment, singled, singled-solid}
 use Rattle.css_tokens.proofs.SingleGaps.{EachOf, HasNoRuns, single_gaps_no_runs, single_gaps_have, second_false}
@@ -122,10 +120,6 @@ module _ (Old First : List ℕ → Word → Type 0) (Alike : List ℕ → List �
     | inr e ↦ subst (λ (vs : List Word). Chain First (before_gap word_kind vs) r) (sym (ap (λ b. cond b xs (x ∷ xs)) e)) h
   ]
 
-  -- the printed words are read one after another
-  pub chain_printed : (ws : List Word) → Chain Old ws s → Chain First (printed_words ws) r
-  chain_printed ws h = after_gap_chain (singled ws) (walk ws h).1
-
-  -- the same of a value
-  pub chain_value : (v : List Component) → Chain Old (words_all v) s → Chain First (value_words v) r
-  chain_value v h = chain_printed (words_all v) h
+  -- the shortened words are read one after another
+  pub chain_shortened : (ws : List Word) → Chain Old ws s → Chain First (shortened_words ws) r
+  chain_shortened ws h = after_gap_chain (singled ws) (walk ws h).1

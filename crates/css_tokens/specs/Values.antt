@@ -88,10 +88,28 @@ before_gap kind (x ∷ y ∷ ys) = x ∷ before_gap kind (y ∷ ys)
 abbrev pub word_kind : Word → Kind
 word_kind w = w.kind
 
--- The words of a value as they print: each run of white space and comments as one space where it has white space, else
--- as `/**/`, and at both ends as nothing.
+-- what follows an element that takes a space, or does not: where it does, a comment stands before white space
+abbrev pub behind_taking : {X : Type 0} → (X → Kind) → X → Bool → List X → List X
+behind_taking kind comment false ys = ys
+behind_taking kind comment true [] = []
+behind_taking kind comment true (y ∷ ys) = if is_white (kind y) then comment ∷ y ∷ ys else y ∷ ys
+
+-- Each element that takes a space is parted by a comment from white space behind it.
+abbrev pub parted : {X : Type 0} → (X → Kind) → X → (X → Bool) → List X → List X
+parted kind comment takes [] = []
+parted kind comment takes (x ∷ xs) = x ∷ behind_taking kind comment (takes x) (parted kind comment takes xs)
+
+-- the comment that parts words
+abbrev pub parting_word : Word
+parting_word = record { kind = Comment; text = codes "/**/" }
+
+-- words with each run of white space and comments as one space where it has white space, else as `/**/`, and at both ends as nothing
+abbrev pub shortened_words : List Word → List Word
+shortened_words ws = before_gap word_kind (after_gap word_kind (single_gaps word_kind (map short_word ws)))
+
+-- The words of a value as they print: shortened, and with a comment before the white space that an escape would take.
 abbrev pub printed_words : List Word → List Word
-printed_words ws = before_gap word_kind (after_gap word_kind (single_gaps word_kind (map short_word ws)))
+printed_words ws = parted word_kind parting_word takes_space (shortened_words ws)
 
 -- the words that the components of a value print as
 abbrev pub value_words : List Component → List Word

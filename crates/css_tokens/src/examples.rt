@@ -114,6 +114,8 @@ pub fn value_texts()
     ensures comment { spelled (printed_words (word Ident "a" ∷ word Comment "/* c */" ∷ word Ident "b" ∷ [])) ≡ codes "a/**/b" }
     ensures two_comments { spelled (printed_words (word Ident "a" ∷ word Comment "/*1*/" ∷ word Comment "/*2*/" ∷ word Ident "b" ∷ [])) ≡ codes "a/**/b" }
     ensures comment_and_space { spelled (printed_words (word Ident "a" ∷ word Comment "/* c */" ∷ word White "\t" ∷ word Ident "b" ∷ [])) ≡ codes "a b" }
+    ensures escape { spelled (printed_words (word Ident "\\61" ∷ word Comment "/* c */" ∷ word White " " ∷ word Ident "b" ∷ [])) ≡ codes "\\61/**/ b" }
+    ensures escape_with_its_space { spelled (printed_words (word Ident "\\61 " ∷ word White " " ∷ word Ident "b" ∷ [])) ≡ codes "\\61  b" }
     ensures no_ends { spelled (printed_words (word White " " ∷ word Ident "a" ∷ word Comment "/* c */" ∷ [])) ≡ codes "a" }
     ensures string { spelled (printed_words (word quoted "'a  b'" ∷ [])) ≡ codes "'a  b'" }
 {}

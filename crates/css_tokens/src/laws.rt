@@ -1,4 +1,4 @@
-ghost use Rattle.std.specs.Prelude.{ℕ, List, ◌∷◌, [], ◌++◌, ◌≡◌, ◌≢◌, ◌≤◌, ◌⊎◌, IsTrue, true, false, not, codes, length, map};
+ghost use Rattle.std.specs.Prelude.{ℕ, List, ◌∷◌, [], ◌++◌, ◌≡◌, ◌≢◌, ◌≤◌, ◌⊎◌, IsTrue, true, false, codes, length, map};
 ghost use Rattle.std.specs.List.{AllByRecursion, list_all};
 ghost use Rattle.std.specs.Str.{str_to_ascii_lowercase};
 ghost use Rattle.css_tokens.specs.declared.component.Component.{Component};
@@ -13,7 +13,7 @@ ghost use Rattle.css_tokens.specs.Pairing.{IsBracketFault, IsMismatch, IsPaired,
 ghost use Rattle.css_tokens.specs.Piece.{Piece, Word, spelled, word_of};
 ghost use Rattle.css_tokens.specs.Tokens.{First, IsPlaced, Reads, ReadsTo, StopsAt, classes_of, is_url, mark_length, quote_follows, spells};
 ghost use Rattle.css_tokens.specs.Trees.{words_all, all_formed, is_text, pieces_all};
-ghost use Rattle.css_tokens.specs.Values.{is_gap, takes_space, value_words, value_text};
+ghost use Rattle.css_tokens.specs.Values.{is_gap, value_words, value_text};
 
 /// A text reads in at most one way, or has a fault at one place within it, and never both.
 pub fn one_reading()
@@ -71,7 +71,7 @@ pub fn words_again()
 /// The printed text of a value reads as its words, before whatever begins with a stop. A reading splits anywhere. What
 /// ends a declaration begins with a stop: white space, a comment, `;`, a closing bracket, and a `!` with no `-` behind it.
 pub fn values_again()
-    ensures printed { (v : List Component) (s r : List ℕ) → IsTrue (all_formed v) → list_all (λ w. not (takes_space w)) (words_all v) ≡ true → is_stop (classes_of s) ≡ true → is_stop (classes_of r) ≡ true → begins_none white r ≡ true → ReadsTo (spelled (words_all v) ++ s) (words_all v) s → ReadsTo (value_text v ++ r) (value_words v) r }
+    ensures printed { (v : List Component) (s r : List ℕ) → IsTrue (all_formed v) → is_stop (classes_of s) ≡ true → is_stop (classes_of r) ≡ true → begins_none white r ≡ true → ReadsTo (spelled (words_all v) ++ s) (words_all v) s → ReadsTo (value_text v ++ r) (value_words v) r }
     ensures front { (xs ys : List Word) (s : List ℕ) → ReadsTo (spelled (xs ++ ys) ++ s) (xs ++ ys) s → ReadsTo (spelled xs ++ (spelled ys ++ s)) xs (spelled ys ++ s) }
     ensures back { (xs ys : List Word) (s : List ℕ) → ReadsTo (spelled (xs ++ ys) ++ s) (xs ++ ys) s → ReadsTo (spelled ys ++ s) ys s }
     ensures stops { (w : Word) (rest : List ℕ) → StaysFirst w rest → is_end_kind w.kind ≡ true → is_stop (classes_of (w.text ++ rest)) ≡ true }

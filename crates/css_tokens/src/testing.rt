@@ -12,7 +12,7 @@ pub(crate) fn tokens_of(alloc: Global, text: &str) -> List<Token<'_>>
 {
     places_rise_in_a_text();
     let bytes = text.as_bytes();
-    if bytes.len() <= 200 {
+    if bytes.len() < 1_000_000 {
         if let Ok(list) = tokens(alloc, bytes) {
             return list;
         }

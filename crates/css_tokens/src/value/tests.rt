@@ -18,10 +18,25 @@ fn shortens_gaps(rt: HostRuntime) -> Result<(), Fail> {
         ("\n0 /* c */ auto/**/", "0 auto"),
         ("b/* c *//**/c", "b/**/c"),
         ("calc( 1px/* c */+  2px)", "calc( 1px/**/+ 2px)"),
+        ("\\61/* c */ b", "\\61/**/ b"),
+        ("\\61 /* c */ b", "\\61  b"),
+        ("\\61\r /**/b", "\\61\r b"),
+        ("f(\\61/**/\n)", "f(\\61/**/ )"),
     ];
     for (text, want) in cases {
         let out = written(rt.alloc(), text)?;
         assert_eq!(rt; out.as_slice(), want.as_bytes(), "from {text}");
     }
+    Ok(())
+}
+
+#[test]
+fn writes_a_long_value(rt: HostRuntime) -> Result<(), Fail> {
+    let mut text = String::new(rt.alloc());
+    for _ in 0..20_000 {
+        text.push_str("(\\e9/* c */ é)")?;
+    }
+    let out = written(rt.alloc(), text.as_str())?;
+    assert_eq!(rt; out.len(), 20_000 * 12);
     Ok(())
 }

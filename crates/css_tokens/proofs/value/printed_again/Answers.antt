@@ -1,6 +1,4 @@
-use Rattle.css_tokens.proofs.AgainLemmas.{value_again_formed}
-use Rattle.css_tokens.proofs.AgainWords.{words_value_again}
-use Rattle.css_tokens.proofs.PrintedAgain.{value_text-again, value_words-again, filter-value_again, value_again_starts, value_again_ends}
+use Rattle.css_tokens.proofs.PrintedAgain.{value_again_formed, words_value_again, value_text-again, value_words-again, filter-value_again, value_again_starts, value_again_ends}
 use Rattle.css_tokens.proofs.value.printed_again.Goals as goal
 
 pub returns : goal.returns
