@@ -1,0 +1,12 @@
+//! Selectors and lists of them: their tree, their specificity, how they are read and how they are written (Selectors 4).
+#![tactic(auto)]
+
+mod count;
+mod selector;
+mod triple;
+
+pub use count::specificity;
+pub use selector::{
+    Attribute, Combinator, Compound, Link, Part, Selector, Simple, Tail, Test, TypeName,
+};
+pub use triple::Specificity;
