@@ -1,2 +1,4 @@
 pub mod CountLemmas
 pub mod Computing
+pub mod SpellingTexts
+pub mod WritingLemmas

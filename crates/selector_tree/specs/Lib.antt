@@ -4,3 +4,6 @@ pub mod BareFold
 pub mod Erased
 pub mod SameErased
 pub mod Specificities
+pub mod Names
+pub mod Spelling
+pub mod Private

@@ -4,9 +4,11 @@
 mod count;
 mod selector;
 mod triple;
+mod write;
 
 pub use count::specificity;
 pub use selector::{
     Attribute, Combinator, Compound, Link, Part, Selector, Simple, Tail, Test, TypeName,
 };
 pub use triple::Specificity;
+pub use write::write_list;
