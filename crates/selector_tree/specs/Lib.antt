@@ -6,4 +6,8 @@ pub mod SameErased
 pub mod Specificities
 pub mod Names
 pub mod Spelling
+pub mod Grammar
+pub mod Arguments
+pub mod Signs
+pub mod Faults
 pub mod Private

@@ -1,12 +1,17 @@
 //! Selectors and lists of them: their tree, their specificity, how they are read and how they are written (Selectors 4).
 #![tactic(auto)]
 
+mod argument;
 mod count;
+mod fault;
+mod reading;
 mod selector;
+mod sign;
 mod triple;
 mod write;
 
 pub use count::specificity;
+pub use fault::SelectorFault;
 pub use selector::{
     Attribute, Combinator, Compound, Link, Part, Selector, Simple, Tail, Test, TypeName,
 };
