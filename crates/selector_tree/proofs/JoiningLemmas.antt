@@ -2,7 +2,7 @@
 use Rattle.std.proofs.Common.{◌≡◌, ℕ, List, [], ◌∷◌, ◌++◌, map, refl, sym, ap, ◌∙◌, append_assoc}
 use Rattle.std.specs.Prelude.{Option, Some, None}
 use Rattle.std.specs.Option.{option_map}
-use Rattle.std.proofs.lemmas.List.{append-nil}
+use Rattle.std.proofs.lemmas.List.{append-nil, take_min, drop_min}
 use Rattle.css_tokens.specs.Piece.{Piece}
 use Rattle.selector_tree.specs.Arguments.{kind_text, text_before, texts_of}
 use Rattle.selector_tree.specs.Grammar.{Mark}
@@ -30,3 +30,6 @@ text-fails white joined p ps e = ap (λ (o : Option (List ℕ)). onto joined (te
 
 pub text-ends : (white joined : List ℕ) → onto joined (texts_of white []) ≡ Some joined
 text-ends white joined = ap (λ (t : List ℕ). Some t) (append-nil joined)
+
+-- a list cut at a place, or at its end where it is shorter
+pub ruleset cuts = (take_min, drop_min)

@@ -5,3 +5,4 @@ pub mod WritingLemmas
 pub mod SignsRead
 pub mod NameLemmas
 pub mod JoiningLemmas
+pub mod ListingReads

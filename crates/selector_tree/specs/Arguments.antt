@@ -1,6 +1,6 @@
 -- What stands in `[]`, in `:nth-..()` and in `:lang()` (Selectors 4, sections 6, 7.2 and 18; CSS Syntax 3, section 6). The
 -- tokens are those without comments.
-use Rattle.std.specs.Prelude.{ℕ, List, [], ◌∷◌, ◌++◌, Bool, true, false, ◌||◌, ◌&&◌, codes, nat_eq, Option, Some, None, if◌then◌else◌}
+use Rattle.std.specs.Prelude.{ℕ, List, [], ◌∷◌, ◌++◌, Bool, true, false, ◌||◌, ◌&&◌, codes, nat_eq, length, take, drop, Option, Some, None, if◌then◌else◌}
 use Rattle.std.specs.List.{list_all}
 use Rattle.std.specs.Char.{is_ascii_digit}
 use Rattle.std.specs.Option.{option_and_then, option_map, option_map_or}
@@ -13,7 +13,7 @@ use Rattle.selector_tree.specs.declared.selector.Attribute.{Attribute}
 use Rattle.selector_tree.specs.declared.selector.Test.{Test}
 use Rattle.selector_tree.specs.declared.selector.Test.TheVariants as tests
 use Rattle.selector_tree.specs.Names.{is_name, lowered}
-use Rattle.selector_tree.specs.Spelling.{begins_digit, behind, unsigned}
+use Rattle.selector_tree.specs.Spelling.{begins_digit, unsigned}
 
 -- white space?
 abbrev pub is_white_kind : Kind → Bool
@@ -134,7 +134,7 @@ is_blank text = list_all (λ b. nat_eq b 32) text
 
 -- this word, and then spaces
 abbrev pub is_word : List ℕ → List ℕ → Bool
-is_word word text = option_map_or is_blank (behind word text) false
+is_word word text = is_text (take (length word) text) word && is_blank (drop (length word) text)
 
 -- digits, and then spaces
 abbrev pub is_integer : List ℕ → Bool

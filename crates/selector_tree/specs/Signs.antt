@@ -26,7 +26,7 @@ use Rattle.selector_tree.specs.declared.sign.Callee.TheVariants as callees
 use Rattle.selector_tree.specs.declared.sign.Sign.{Sign}
 use Rattle.selector_tree.specs.declared.sign.Sign.TheVariants as signs
 use Rattle.selector_tree.specs.Arguments.{attribute_of, lone_name, an_plus_b}
-use Rattle.selector_tree.specs.Grammar.{Mark, marks_reading, selector_of}
+use Rattle.selector_tree.specs.Grammar.{Mark, marks_reading}
 use Rattle.selector_tree.specs.Names.{is_name, lowered}
 
 -- Tokens.
@@ -107,13 +107,14 @@ abbrev pub has_no_link : List link.Link → Bool
 has_no_link [] = true
 has_no_link (l ∷ ls) = false
 
--- the compound of a selector that is one compound without a pseudo-element
-abbrev pub lone_compound : Selector → Option Compound
-lone_compound s = if is_none s.first.tail && has_no_link s.rest then Some s.first else None
+-- the compound of a list of one selector that is one compound without a pseudo-element
+abbrev pub lone_compound : List Selector → Option Compound
+lone_compound (s ∷ []) = if is_none s.first.tail && has_no_link s.rest then Some s.first else None
+lone_compound ss = None
 
 -- such a compound
 abbrev pub compound_in : List Mark → Option Compound
-compound_in ms = option_and_then lone_compound (selector_of false ms)
+compound_in ms = option_and_then lone_compound (list_in ms)
 
 -- the pseudo-class of this name with this argument
 abbrev pub with_argument : List ℕ → List ℕ → Simple
@@ -138,6 +139,13 @@ callee_of name =
     else (if is_text name (codes "nth-last-of-type") then callees.Step
     else (if is_text name (codes "lang") then callees.Lang
     else callees.Other)))))))))
+
+-- does it take selectors?
+abbrev pub takes_list : Callee → Bool
+takes_list callees.Step = false
+takes_list callees.Lang = false
+takes_list callees.Other = false
+takes_list callee = true
 
 -- the simple selector that such a Function is, where it is one
 abbrev pub call_by : Callee → List ℕ → List Mark → Option Simple

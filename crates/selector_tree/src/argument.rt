@@ -1,12 +1,11 @@
 //! What stands in `[]`, in `:nth-..()` and in `:lang()` (Selectors 4, sections 6, 7.2 and 18; CSS Syntax 3, section 6).
 
 ghost use Rattle.selector_tree.specs.Arguments.{after_digits, after_spaces, after_white, an_plus_b, attribute_of, begun, flagged, is_an_plus_b, is_blank, is_delim, is_flag, is_integer, is_offset, is_step, is_white, is_white_kind, is_word, kind_text, lone, lone_name, name_in, named, operated, test_before_equals, test_of, texts_of, value_in_kind, valued};
-ghost use Rattle.selector_tree.specs.Names.{is_name};
+ghost use Rattle.selector_tree.specs.Names.{is_name, lowered};
 ghost use Rattle.selector_tree.specs.Spelling.{begins_digit, unsigned};
 ghost use Rattle.std.specs.Option.{option_map};
-ghost use Rattle.std.specs.Prelude.{◌≡◌, ◌++◌, codes, string_bytes, IfOk};
+ghost use Rattle.std.specs.Prelude.{◌≡◌, codes, string_bytes, IfOk};
 
-use crate::reading::lowered;
 use crate::selector::{Attribute, Test};
 use css_tokens::{Kind, OutOfMemory, Text, Token, is_plain_name, name_of};
 use std::alloc::Global;
@@ -230,5 +229,156 @@ pub fn lone_name<'a>(
         name_in(alloc, first)
     } else {
         Ok(None)
+    }
+}
+
+// AN+B.
+
+fn after_spaces(text: &[u8]) -> &[u8]
+    ensures { result.now ≡ after_spaces text.now }
+{
+    let mut from = 0;
+    while from < text.len() && text[from] == b' ' {
+        from += 1;
+    }
+    &text[from..]
+}
+
+fn after_digits(text: &[u8]) -> &[u8]
+    ensures { result.now ≡ after_digits text.now }
+{
+    let mut from = 0;
+    while from < text.len() && text[from].is_ascii_digit() {
+        from += 1;
+    }
+    &text[from..]
+}
+
+fn is_blank(text: &[u8]) -> bool
+    ensures { result ≡ is_blank text.now }
+{
+    text.iter().all(|byte| *byte == b' ')
+}
+
+fn begins_digit(text: &[u8]) -> bool
+    ensures { result ≡ begins_digit text.now }
+{
+    match text {
+        [] => false,
+        [first, ..] => first.is_ascii_digit(),
+    }
+}
+
+/// Without a sign in front.
+fn unsigned(text: &[u8]) -> &[u8]
+    ensures { result.now ≡ unsigned text.now }
+{
+    match text {
+        [first, rest @ ..] if *first == b'+' || *first == b'-' => rest,
+        _ => text,
+    }
+}
+
+/// This word, and then spaces.
+#[tactic(auto, using(crate::proofs::JoiningLemmas::cuts))]
+fn is_word(word: &[u8], text: &[u8]) -> bool
+    ensures { result ≡ is_word word.now text.now }
+{
+    let end = word.len().min(text.len());
+    let (front, rest) = text.split_at(end);
+    front == word && is_blank(rest)
+}
+
+/// Digits, and then spaces.
+fn is_integer(text: &[u8]) -> bool
+    ensures { result ≡ is_integer text.now }
+{
+    begins_digit(text) && is_blank(after_digits(text))
+}
+
+/// A sign and digits, with spaces round the sign and behind; or nothing.
+fn is_offset(text: &[u8]) -> bool
+    ensures { result ≡ is_offset text.now }
+{
+    match text {
+        [] => true,
+        [first, rest @ ..] => (*first == b'+' || *first == b'-') && is_integer(after_spaces(rest)),
+    }
+}
+
+/// `n`, and then perhaps a sign and digits.
+fn is_step(text: &[u8]) -> bool
+    ensures { result ≡ is_step text.now }
+{
+    match text {
+        [] => false,
+        [first, rest @ ..] => *first == b'n' && is_offset(after_spaces(rest)),
+    }
+}
+
+fn is_an_plus_b(text: &[u8]) -> bool
+    ensures { result ≡ is_an_plus_b text.now }
+{
+    is_word(b"odd", text)
+        || is_word(b"even", text)
+        || is_integer(unsigned(text))
+        || is_step(after_digits(unsigned(text)))
+}
+
+/// The text of a token of AN+B, where white space has this one.
+fn kind_text<'a>(
+    alloc: Global,
+    white: &'static str,
+    token: &Token<'a>,
+) -> Result<Option<Text<'a>>, OutOfMemory>
+    ensures { IfOk result (λ text. text ≡ kind_text white.now token.now.kind token.now.text) }
+{
+    match token.kind {
+        Kind::White => Ok(Some(Text::lent(white))),
+        Kind::Ident => Ok(Some(name_of(alloc, token)?)),
+        Kind::Number | Kind::Dimension => Ok(Some(Text::lent(token.text))),
+        Kind::Delim if token.text == "+" || token.text == "-" => Ok(Some(Text::lent(token.text))),
+        _ => Ok(None),
+    }
+}
+
+/// The texts of tokens one after another, where each may stand in AN+B.
+fn texts_of(
+    alloc: Global,
+    white: &'static str,
+    tokens: &[Token],
+) -> Result<Option<String>, OutOfMemory>
+    ensures { IfOk result (λ text. option_map string_bytes text ≡ texts_of white.now tokens.now) }
+{
+    let mut joined = String::new(alloc);
+    for token in tokens {
+        match kind_text(alloc, white, token)? {
+            Some(text) => joined.push_str(text.as_str())?,
+            None => return Ok(None),
+        }
+    }
+    Ok(Some(joined))
+}
+
+fn in_lower_case(alloc: Global, text: String) -> Result<String, OutOfMemory>
+    ensures { IfOk result (λ lower. string_bytes lower ≡ lowered (string_bytes text)) }
+{
+    Ok(text.as_str().to_ascii_lowercase(alloc)?)
+}
+
+/// The canonical text of the AN+B that these tokens spell, if they spell one. They hold no comment.
+pub fn an_plus_b(alloc: Global, tokens: &[Token]) -> Result<Option<String>, OutOfMemory>
+    ensures { IfOk result (λ text. option_map string_bytes text ≡ an_plus_b tokens.now) }
+{
+    let Some(text) = texts_of(alloc, " ", tokens)? else {
+        return Ok(None);
+    };
+    let text = in_lower_case(alloc, text)?;
+    if !is_an_plus_b(after_spaces(text.as_bytes())) {
+        return Ok(None);
+    }
+    match texts_of(alloc, "", tokens)? {
+        Some(text) => Ok(Some(in_lower_case(alloc, text)?)),
+        None => Ok(None),
     }
 }

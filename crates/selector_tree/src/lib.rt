@@ -4,6 +4,7 @@
 mod argument;
 mod count;
 mod fault;
+mod read;
 mod reading;
 mod selector;
 mod sign;
@@ -12,8 +13,12 @@ mod write;
 
 pub use count::specificity;
 pub use fault::SelectorFault;
+pub use read::read_list;
 pub use selector::{
     Attribute, Combinator, Compound, Link, Part, Selector, Simple, Tail, Test, TypeName,
 };
 pub use triple::Specificity;
 pub use write::write_list;
+
+#[cfg(test)]
+mod tests;

@@ -3,11 +3,13 @@
 ghost use Rattle.selector_tree.specs.Names.{lowered};
 ghost use Rattle.selector_tree.specs.Faults.{FaultIs};
 ghost use Rattle.selector_tree.specs.Grammar.{is_old_element};
-ghost use Rattle.selector_tree.specs.Private.ReadingSteps.{chained, fresh, joined, linked, of_type, on_argument, on_call, on_colon, on_dot, on_joint, on_name, on_part, on_pseudo, on_type, on_white, pending_reading, pending_step, reading, step, with_element, with_simple};
+ghost use Rattle.selector_tree.specs.Private.ReadingSteps.{chained, fresh, joined, linked, listing_end, listing_step, of_type, on_argument, on_call, on_colon, on_dot, on_joint, on_name, on_part, on_pseudo, on_type, on_white, pending_reading, pending_step, reading, step, with_element, with_member, with_simple};
 ghost use Rattle.selector_tree.specs.declared.reading.Phase.TheVariants.{Inside};
 ghost use Rattle.std.specs.Char.{is_ascii_uppercase};
+ghost use Rattle.selector_tree.specs.Signs.{lone_compound, read};
 ghost use Rattle.std.specs.List.{list_any};
-ghost use Rattle.std.specs.Prelude.{◌≡◌, [], IfOk, IfErr, OnOk};
+ghost use Rattle.std.specs.Option.{option_and_then};
+ghost use Rattle.std.specs.Prelude.{◌≡◌, [], ◌∷◌, IfOk, IfErr, OnOk, Ok};
 
 use crate::fault::SelectorFault;
 use crate::selector::{Combinator, Compound, Link, Part, Selector, Simple, Tail, TypeName};
@@ -53,7 +55,7 @@ struct Reading<'a> {
 
 /// A member of a list that is being read, and the place of its first token.
 #[derive(Debug, Drop)]
-pub struct Pending<'a> {
+struct Pending<'a> {
     reading: Reading<'a>,
     place: Option<u32>,
 }
@@ -371,7 +373,7 @@ fn chained<'a>(
 
 impl<'a> Pending<'a> {
     /// Nothing is read of the member. A nested selector may begin with a combinator.
-    pub fn fresh(alloc: Global, nested: bool) -> Pending<'a>
+    fn fresh(alloc: Global, nested: bool) -> Pending<'a>
         ensures { result ≡ fresh nested }
     {
         Pending {
@@ -386,7 +388,7 @@ impl<'a> Pending<'a> {
     }
 
     /// One more component of the member: its sign, and its place.
-    pub fn step(&mut self, alloc: Global, sign: Sign<'a>, at: u32) -> Result<(), OutOfMemory>
+    fn step(&mut self, alloc: Global, sign: Sign<'a>, at: u32) -> Result<(), OutOfMemory>
         ensures { OnOk result (self.new ≡ pending_step self.old sign.entry at) }
     {
         if self.place.is_none() && !matches!(&sign, Sign::White | Sign::Comment) {
@@ -397,7 +399,7 @@ impl<'a> Pending<'a> {
 }
 
 /// The selector that a member spells. One that spells none is refused at its first token, or where it ends.
-pub fn conclude<'a>(
+fn conclude<'a>(
     alloc: Global,
     pending: Pending<'a>,
     stop: u32,
@@ -411,5 +413,93 @@ pub fn conclude<'a>(
             Ok(chained(alloc, at, pending.reading)?)
         }
         _ => Err(SelectorFault::Syntax(pending.place.unwrap_or(stop))),
+    }
+}
+
+/// A list that is being read: its whole members, and the one that has begun.
+#[derive(Debug, Drop)]
+pub struct Listing<'a> {
+    list: List<Selector<'a>>,
+    pending: Pending<'a>,
+}
+
+impl<'a> Listing<'a> {
+    /// Nothing is read of the list.
+    pub fn fresh(alloc: Global, nested: bool) -> Listing<'a>
+        ensures { result ≡ record { list = []; pending = fresh nested } }
+    {
+        Listing {
+            list: List::new(alloc),
+            pending: Pending::fresh(alloc, nested),
+        }
+    }
+
+    /// The member that has begun, or its fault; a fresh one begins.
+    fn end_member(
+        &mut self,
+        alloc: Global,
+        nested: bool,
+        at: u32,
+    ) -> Result<(), SelectorFault>
+        ensures found { OnOk result (with_member nested self.old.list (pending_reading self.old.pending at) ≡ Ok self.new) }
+        ensures fault { IfErr result (λ e. FaultIs e (with_member nested self.old.list (pending_reading self.old.pending at))) }
+    {
+        let pending = mem::replace(&mut self.pending, Pending::fresh(alloc, nested));
+        let selector = conclude(alloc, pending, at)?;
+        self.list.push(selector)?;
+        Ok(())
+    }
+
+    /// One more component of the list: its sign, and its place.
+    pub fn step(
+        &mut self,
+        alloc: Global,
+        nested: bool,
+        sign: Sign<'a>,
+        at: u32,
+    ) -> Result<(), SelectorFault>
+        ensures found { OnOk result (listing_step nested self.old sign.entry at ≡ Ok self.new) }
+        ensures fault { IfErr result (λ e. FaultIs e (listing_step nested self.old sign.entry at)) }
+    {
+        if sign.is_comma() {
+            self.end_member(alloc, nested, at)
+        } else {
+            self.pending.step(alloc, sign, at)?;
+            Ok(())
+        }
+    }
+
+    /// The list, where the last member is one.
+    pub fn finish(self, alloc: Global, end: u32) -> Result<List<Selector<'a>>, SelectorFault>
+        ensures found { IfOk result (λ list. listing_end self.entry end ≡ Ok list) }
+        ensures fault { IfErr result (λ e. FaultIs e (listing_end self.entry end)) }
+    {
+        let mut list = self.list;
+        list.push(conclude(alloc, self.pending, end)?)?;
+        Ok(list)
+    }
+
+    /// The compound of a list of one selector that is one compound without a pseudo-element.
+    pub fn finish_alone(self, alloc: Global) -> Result<Option<Compound<'a>>, OutOfMemory>
+        ensures { IfOk result (λ k. k ≡ option_and_then lone_compound (read (listing_end self.entry 0))) }
+    {
+        if !self.list.is_empty() {
+            return Ok(None);
+        }
+        match conclude(alloc, self.pending, 0) {
+            Ok(selector) => Ok(lone_compound(selector)),
+            Err(SelectorFault::Syntax(_)) => Ok(None),
+            Err(SelectorFault::Memory) => Err(OutOfMemory),
+        }
+    }
+}
+
+fn lone_compound<'a>(selector: Selector<'a>) -> Option<Compound<'a>>
+    ensures { result ≡ lone_compound (selector.entry ∷ []) }
+{
+    if selector.first.tail.is_none() && selector.rest.is_empty() {
+        Some(selector.first)
+    } else {
+        None
     }
 }

@@ -1,5 +1,5 @@
 -- A selector that is read from left to right, and the list in which it stands (Selectors 4, section 18, Grammar).
-use Rattle.std.specs.Prelude.{ℕ, List, [], ◌∷◌, ◌++◌, map, Bool, true, false, Option, Some, None, unwrap_or, if◌then◌else◌, Result, Ok, Err}
+use Rattle.std.specs.Prelude.{ℕ, ◌≡◌, List, [], ◌∷◌, ◌++◌, map, Bool, true, false, Option, Some, None, unwrap_or, if◌then◌else◌, Result, Ok, Err}
 use Rattle.std.specs.Option.{option_or}
 use Rattle.selector_tree.specs.declared.selector.Combinator.{Combinator}
 use Rattle.selector_tree.specs.declared.selector.Combinator.TheVariants as combinators
@@ -20,8 +20,11 @@ use Rattle.selector_tree.specs.declared.reading.Phase.{Phase}
 use Rattle.selector_tree.specs.declared.reading.Phase.TheVariants.{Due, Inside, Dotted, Coloned, Doubled, Behind, Failed}
 use Rattle.selector_tree.specs.declared.reading.Reading.{Reading}
 use Rattle.selector_tree.specs.declared.reading.Pending.{Pending}
+use Rattle.selector_tree.specs.declared.reading.Listing.{Listing}
+use Rattle.selector_tree.specs.declared.fault.SelectorFault.{SelectorFault}
+use Rattle.selector_tree.specs.Faults.{FaultIs}
 use Rattle.selector_tree.specs.Names.{lowered}
-use Rattle.selector_tree.specs.Grammar.{Mark, Step, is_old_element, is_gap_sign, cut_at_commas, link_of, or_fault, first_and, members_reading}
+use Rattle.selector_tree.specs.Grammar.{Mark, Step, is_old_element, is_gap_sign, is_comma_sign, cut_at_commas, marks_reading, link_of, or_fault, first_and, members_reading}
 
 -- one more compound, and the combinator behind it
 abbrev pub joined : Front → Compound → Combinator → Front
@@ -176,3 +179,21 @@ list_from nested p ms end = first_and (pending_reading (pending_run p (cut_at_co
 abbrev pub behind_list : List Selector → Result (List Selector) ℕ → Result (List Selector) ℕ
 behind_list list (Err place) = Err place
 behind_list list (Ok ss) = Ok (list ++ ss)
+
+-- the list with one more selector, and a fresh member; or the fault of the selector
+abbrev pub with_member : Bool → List Selector → Result Selector ℕ → Result Listing ℕ
+with_member nested list (Err place) = Err place
+with_member nested list (Ok s) = Ok (record { list = list ++ s ∷ []; pending = fresh nested })
+
+-- what one more component makes of a list: at a comma the member has to end
+abbrev pub listing_step : Bool → Listing → Sign → ℕ → Result Listing ℕ
+listing_step nested l w at = if is_comma_sign w then with_member nested l.list (pending_reading l.pending at) else Ok (record { list = l.list; pending = pending_step l.pending w at })
+
+-- the list, where the last member may end here
+abbrev pub listing_end : Listing → ℕ → Result (List Selector) ℕ
+listing_end l end = behind_list l.list (first_and (pending_reading l.pending end) (Ok []))
+
+-- What is read of components is the list that they spell, wherever it ends; or its fault.
+abbrev pub Reads : Bool → Result Listing SelectorFault → List Mark → Type 0
+Reads nested (Ok l) ms = (end : ℕ) → listing_end l end ≡ marks_reading nested ms end
+Reads nested (Err e) ms = (end : ℕ) → FaultIs e (marks_reading nested ms end)
