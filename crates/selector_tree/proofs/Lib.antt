@@ -6,3 +6,4 @@ pub mod SignsRead
 pub mod NameLemmas
 pub mod JoiningLemmas
 pub mod ListingReads
+pub mod ResultLemmas

@@ -1,7 +1,8 @@
 -- A list that is read from left to right is the list that the grammar gives.
-use Rattle.std.proofs.Common.{◌≡◌, ℕ, List, [], ◌∷◌, ◌++◌, map, Bool, true, false, refl, sym, ap, ◌∙◌}
-use Rattle.std.specs.Prelude.{Result, Ok, Err, Option, Some, None, if◌then◌else◌, OnErr}
+use Rattle.std.proofs.Common.{◌≡◌, ℕ, List, [], ◌∷◌, ◌++◌, map, Bool, true, false, refl, sym, ap, ◌∙◌, subst}
+use Rattle.std.specs.Prelude.{Result, Ok, Err, Option, Some, None, if◌then◌else◌, IsTrue, ◌↔◌}
 use Rattle.std.specs.Option.{option_and_then}
+use Rattle.std.proofs.lemmas.Bool.{false≢true}
 use Rattle.selector_tree.specs.declared.selector.Compound.{Compound}
 use Rattle.selector_tree.specs.declared.selector.Selector.{Selector}
 use Rattle.selector_tree.specs.declared.sign.Sign.{Sign}
@@ -45,15 +46,14 @@ step-fault nested l m ms end faults.Memory e = tt
 
 -- Lists in Functions.
 
-pub alone-read : (k : Option Compound) (l : Listing) (ms : List Mark) → k ≡ option_and_then lone_compound (read (listing_end l 0)) → listing_end l 0 ≡ marks_reading false ms 0 → k ≡ compound_in ms
-alone-read k l ms e reads = e ∙ ap (λ (r : Result (List Selector) ℕ). option_and_then lone_compound (read r)) reads
-
-pub list-read : (list : List Selector) (l : Listing) (ms : List Mark) → listing_end l 0 ≡ Ok list → listing_end l 0 ≡ marks_reading false ms 0 → Some list ≡ list_in ms
-list-read list l ms e reads = ap read (sym e ∙ reads)
-
 -- a list with a whole member and one more is not one selector
 pub two-members : (s : Selector) (ss : List Selector) (r : Result Selector ℕ) → option_and_then lone_compound (read (behind_list (s ∷ ss) (first_and r (Ok [])))) ≡ None
 two-members s [] (Err place) = refl
 two-members s [] (Ok t) = refl
 two-members s (u ∷ ss) (Err place) = refl
 two-members s (u ∷ ss) (Ok t) = refl
+
+-- more than one selector
+pub not-alone : (list : List Selector) (r : Result Selector ℕ) (b : Bool) → (IsTrue b ↔ (list ≡ [])) → b ≡ false → None ≡ option_and_then lone_compound (read (behind_list list (first_and r (Ok []))))
+not-alone [] r b h e = absurd (false≢true (subst (λ (x : Bool). x ≡ true) e (h.1 refl)))
+not-alone (s ∷ ss) r b h e = sym (two-members s ss r)

@@ -4,6 +4,7 @@ pub mod BareFold
 pub mod Erased
 pub mod SameErased
 pub mod Specificities
+pub mod Samples
 pub mod Names
 pub mod Spelling
 pub mod Grammar
