@@ -3,7 +3,9 @@
 
 mod argument;
 mod count;
+pub mod examples;
 mod fault;
+mod laws;
 mod read;
 mod reading;
 mod selector;
@@ -13,6 +15,7 @@ mod write;
 
 pub use count::specificity;
 pub use fault::SelectorFault;
+pub use laws::places_do_not_count;
 pub use read::read_list;
 pub use selector::{
     Attribute, Combinator, Compound, Link, Part, Selector, Simple, Tail, Test, TypeName,
