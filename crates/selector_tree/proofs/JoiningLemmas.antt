@@ -1,12 +1,10 @@
 -- Lists that are put together from left to right.
-use Rattle.std.proofs.Common.{◌≡◌, ℕ, List, [], ◌∷◌, ◌++◌, map, refl, sym, ap, ◌∙◌, append_assoc}
+use Rattle.std.proofs.Common.{◌≡◌, ℕ, List, [], ◌∷◌, ◌++◌, refl, sym, ap, ◌∙◌, append_assoc}
 use Rattle.std.specs.Prelude.{Option, Some, None}
 use Rattle.std.specs.Option.{option_map}
 use Rattle.std.proofs.lemmas.List.{append-nil, take_min, drop_min}
 use Rattle.css_tokens.specs.Piece.{Piece}
 use Rattle.selector_tree.specs.Arguments.{kind_text, text_before, texts_of}
-use Rattle.selector_tree.specs.Grammar.{Mark}
-use Rattle.selector_tree.specs.Signs.{tokens_of, token_before}
 
 -- what is put together so far, in front of the rest
 abbrev pub onto : {A : Type 0} → List A → Option (List A) → Option (List A)

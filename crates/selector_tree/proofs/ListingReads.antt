@@ -1,19 +1,16 @@
 -- A list that is read from left to right is the list that the grammar gives.
-use Rattle.std.proofs.Common.{◌≡◌, ℕ, List, [], ◌∷◌, ◌++◌, map, Bool, true, false, refl, sym, ap, ◌∙◌, subst}
-use Rattle.std.specs.Prelude.{Result, Ok, Err, Option, Some, None, if◌then◌else◌, IsTrue, ◌↔◌}
+use Rattle.std.proofs.Common.{◌≡◌, ℕ, List, [], ◌∷◌, Bool, true, false, refl, sym, ap, ◌∙◌, subst}
+use Rattle.std.specs.Prelude.{Result, Ok, Err, None, if◌then◌else◌, IsTrue, ◌↔◌}
 use Rattle.std.specs.Option.{option_and_then}
 use Rattle.std.proofs.lemmas.Bool.{false≢true}
-use Rattle.selector_tree.specs.declared.selector.Compound.{Compound}
 use Rattle.selector_tree.specs.declared.selector.Selector.{Selector}
-use Rattle.selector_tree.specs.declared.sign.Sign.{Sign}
 use Rattle.selector_tree.specs.declared.fault.SelectorFault.{SelectorFault}
 use Rattle.selector_tree.specs.declared.fault.SelectorFault.TheVariants as faults
 use Rattle.selector_tree.specs.declared.reading.Listing.{Listing}
-use Rattle.selector_tree.specs.declared.reading.Pending.{Pending}
 use Rattle.selector_tree.specs.Faults.{FaultIs}
-use Rattle.selector_tree.specs.Grammar.{Mark, is_comma_sign, first_and, marks_reading}
-use Rattle.selector_tree.specs.Signs.{compound_in, list_in, lone_compound, read}
-use Rattle.selector_tree.specs.Private.ReadingSteps.{behind_list, fresh, list_from, listing_end, listing_step, pending_reading, pending_step, with_member, Reads}
+use Rattle.selector_tree.specs.Grammar.{Mark, is_comma_sign, first_and}
+use Rattle.selector_tree.specs.Signs.{lone_compound, read}
+use Rattle.selector_tree.specs.Private.ReadingSteps.{behind_list, list_from, listing_step, pending_reading, pending_step, with_member}
 use Rattle.selector_tree.proofs.SignsRead.{comma-turn, comma-fault, more-turn}
 
 -- the list of what is read and the marks behind it

@@ -1,5 +1,5 @@
 -- What is read from left to right is the selector that the grammar gives.
-use Rattle.std.proofs.Common.{◌≡◌, ℕ, List, [], ◌∷◌, ◌++◌, map, length, get_or, drop, suc, ◌+◌, ◌<◌, Bool, true, false, not, cond, refl, sym, ap, ◌∙◌, append_assoc, add-one, drop-cons}
+use Rattle.std.proofs.Common.{◌≡◌, ℕ, List, [], ◌∷◌, ◌++◌, map, Bool, true, false, not, cond, refl, sym, ap, ◌∙◌, append_assoc}
 use Rattle.std.specs.Prelude.{Option, Some, None, unwrap_or, if◌then◌else◌, Result, Ok, Err}
 use Rattle.std.specs.List.{find}
 use Rattle.std.specs.Option.{option_map, option_or}
@@ -24,8 +24,8 @@ use Rattle.selector_tree.specs.declared.reading.Phase.TheVariants.{Due, Inside, 
 use Rattle.selector_tree.specs.declared.reading.Reading.{Reading}
 use Rattle.selector_tree.specs.declared.reading.Pending.{Pending}
 use Rattle.selector_tree.specs.Names.{lowered}
-use Rattle.selector_tree.specs.Grammar.{Body, with_part, tailed, states_of, body_of, compound_with, compound_of, is_old_element, stripped, white_before, sign_before, spaced, Runs, runs_of, Step, stands_before, with_step, steps_of, link_of, selector_with, lead_of, behind_lead, Mark, is_gap_sign, is_comma_sign, first_place, selector_of, Member, empty_before, with_mark, cut_at_commas, fault_place, or_fault, member_reading, first_and, members_reading, marks_reading}
-use Rattle.selector_tree.specs.Private.ReadingSteps.{joined, chained, of_type, with_simple, with_element, with_state, reading, on_pseudo, step, concluded, fresh, pending_step, pending_run, pending_selector, pending_reading, list_from, behind_list}
+use Rattle.selector_tree.specs.Grammar.{Body, with_part, tailed, states_of, body_of, compound_with, compound_of, is_old_element, stripped, white_before, sign_before, spaced, Runs, runs_of, Step, stands_before, with_step, steps_of, link_of, selector_with, lead_of, behind_lead, Mark, is_gap_sign, is_comma_sign, first_place, selector_of, Member, empty_before, with_mark, cut_at_commas, or_fault, first_and, members_reading, marks_reading}
+use Rattle.selector_tree.specs.Private.ReadingSteps.{joined, chained, of_type, with_simple, with_element, with_state, reading, step, concluded, fresh, pending_step, pending_run, pending_selector, pending_reading, list_from, behind_list}
 
 -- What a reading and the clean signs behind it say.
 

@@ -1,8 +1,7 @@
 -- The texts of what selectors are spelled with.
-use Rattle.std.proofs.Common.{◌≡◌, ℕ, List, [], ◌∷◌, ◌++◌, map, Bool, true, false, not, ◌||◌, refl, sym, ap, ◌∙◌, append_assoc, nat_eq, eqb-true}
+use Rattle.std.proofs.Common.{◌≡◌, ℕ, List, [], ◌∷◌, ◌++◌, map, Bool, true, false, not, refl, sym, ap, ◌∙◌, append_assoc, nat_eq, eqb-true}
 use Rattle.std.specs.Prelude.{codes, Option, Some, None, flat_map, if◌then◌else◌, ◌&&◌}
 use Rattle.std.specs.Option.{option_and_then, option_map, option_map_or}
-use Rattle.std.proofs.lemmas.Bool.{false≢true}
 use Rattle.std.proofs.lemmas.List.{append-nil, map-append}
 use Rattle.std.proofs.lemmas.Grind.{flat_map-append}
 use Rattle.css_tokens.specs.declared.kind.Kind.{Kind}
@@ -11,8 +10,6 @@ use Rattle.css_tokens.specs.declared.component.Component.{Component}
 use Rattle.css_tokens.specs.NameText.{name_text}
 use Rattle.css_tokens.specs.Piece.{Piece, Word, word_of, spelled}
 use Rattle.css_tokens.specs.Trees.{pieces_of, pieces_all, words_all, closing, closing_text, pieces_of-Single, pieces_of-Block}
-use Rattle.selector_tree.specs.declared.selector.Combinator.{Combinator}
-use Rattle.selector_tree.specs.declared.selector.TypeName.{TypeName}
 use Rattle.selector_tree.specs.declared.selector.Tail as tail
 use Rattle.selector_tree.specs.declared.selector.Attribute as attribute
 use Rattle.selector_tree.specs.declared.selector.Compound as compound
@@ -24,11 +21,9 @@ use Rattle.selector_tree.specs.declared.selector.Simple as simple
 use Rattle.selector_tree.specs.BareFold.{placed}
 use Rattle.selector_tree.specs.SelectorFold.{made_part, made_link, simple_of, compound_of, combinator_of, folded-Class, folded-Id, folded-Attribute, folded-Pseudo, folded-Not, folded-Is, folded-Where, folded-Parent, folded-Local, folded-Global, folded-Foreign, folded-Compound, folded-Selector}
 use Rattle.selector_tree.specs.Private.Texts.{parts_text, links_text, more_text, comma_text, left_text}
-use Rattle.selector_tree.specs.declared.selector.Combinator.TheVariants as combinators
 use Rattle.selector_tree.specs.declared.selector.TypeName.TheVariants as types
-use Rattle.selector_tree.specs.declared.selector.Test.{Test}
 use Rattle.selector_tree.specs.declared.selector.Test.TheVariants as tests
-use Rattle.selector_tree.specs.Spelling.{single, ident, space, string_text, value_spelling, test_spelling, block, text_of, behind, before_close, before_plus, from_plus, front_spelling, back_spelling, argument_spelling, pseudo_from, pseudo_spelling, text_functions, commas_between, more_spelling, simple_spelling, compound_spelling, selector_spelling, list_spelling, simple_text, compound_text, selector_text, list_text, spelling, call, attribute_spelling, type_spelling, tail_spelling, state_spelling, links_spelling, lead_spelling, combinator_spelling, ends_in_dashes, begins_digit, delim, word_kind}
+use Rattle.selector_tree.specs.Spelling.{single, ident, space, string_text, value_spelling, test_spelling, block, text_of, behind, before_close, before_plus, from_plus, front_spelling, back_spelling, argument_spelling, pseudo_from, pseudo_spelling, text_functions, more_spelling, simple_spelling, compound_spelling, selector_spelling, list_spelling, simple_text, compound_text, selector_text, list_text, spelling, call, attribute_spelling, type_spelling, tail_spelling, state_spelling, links_spelling, lead_spelling, combinator_spelling, ends_in_dashes, begins_digit, delim, word_kind}
 
 -- The text of components is that of the first ones and then that of the others.
 pub text-append : (cs ds : List Component) → text_of (cs ++ ds) ≡ text_of cs ++ text_of ds

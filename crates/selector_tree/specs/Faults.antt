@@ -1,5 +1,5 @@
 -- What a refusal of a selector list says (Selectors 4, section 18, Grammar).
-use Rattle.std.specs.Prelude.{ℕ, ◌≡◌, Result, Ok, Err}
+use Rattle.std.specs.Prelude.{ℕ, ◌≡◌, Result, Err}
 use Rattle.selector_tree.specs.declared.fault.SelectorFault.{SelectorFault}
 use Rattle.selector_tree.specs.declared.fault.SelectorFault.TheVariants.{Syntax, Memory}
 

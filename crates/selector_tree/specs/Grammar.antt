@@ -1,5 +1,5 @@
 -- Selectors and lists of them, read from component values (Selectors 4, section 18, Grammar; CSS Nesting 1, section 3).
-use Rattle.std.specs.Prelude.{ℕ, List, [], ◌∷◌, map, Bool, true, false, not, codes, Option, Some, None, is_some, unwrap_or, if◌then◌else◌, Result, Ok, Err}
+use Rattle.std.specs.Prelude.{ℕ, List, [], ◌∷◌, map, Bool, true, false, not, codes, Option, Some, None, unwrap_or, if◌then◌else◌, Result, Ok, Err}
 use Rattle.std.specs.List.{find, list_any}
 use Rattle.std.specs.Option.{option_map}
 use Rattle.css_tokens.specs.Piece.{Piece}
@@ -16,7 +16,7 @@ use Rattle.selector_tree.specs.declared.selector.Tail.{Tail}
 use Rattle.selector_tree.specs.declared.selector.Compound as compound
 use Rattle.selector_tree.specs.declared.selector.Selector as selector
 use Rattle.selector_tree.specs.declared.sign.Sign.{Sign}
-use Rattle.selector_tree.specs.declared.sign.Sign.TheVariants.{Comment, White, Comma, Joint, Name, Star, Dot, Colon, Whole, Call, Other}
+use Rattle.selector_tree.specs.declared.sign.Sign.TheVariants.{Comment, White, Comma, Joint, Name, Star, Dot, Colon, Whole, Call}
 use Rattle.selector_tree.specs.Names.{lowered}
 
 -- Compounds. Their signs hold no comment, white space, comma or combinator.

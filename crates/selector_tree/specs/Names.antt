@@ -1,6 +1,5 @@
 -- Which names and values selectors can hold today: those in ASCII that need no escape (CSS Syntax 3, section 4.3.9).
-use Rattle.std.specs.Prelude.{ℕ, List, Bool, not, ◌&&◌, ◌||◌, nat_eq, nat_le, nat_lt}
-use Rattle.std.specs.List.{list_all}
+use Rattle.std.specs.Prelude.{ℕ, List, Bool}
 use Rattle.std.specs.Str.{str_to_ascii_lowercase}
 use Rattle.css_tokens.specs.PlainNames.{is_plain_name}
 

@@ -1,6 +1,6 @@
 -- Short texts as components, and short selectors, for the worked examples.
 use Prim.Native.String.{String}
-use Rattle.std.specs.Prelude.{ℕ, List, [], ◌∷◌, ◌+◌, false, None, Some, length, map, codes, Option}
+use Rattle.std.specs.Prelude.{ℕ, List, [], ◌∷◌, ◌+◌, false, None, Some, length, codes}
 use Rattle.css_tokens.specs.declared.kind.Kind.{Kind}
 use Rattle.css_tokens.specs.declared.kind.Kind.TheVariants as kinds
 use Rattle.css_tokens.specs.declared.component.Component.{Component}
@@ -14,7 +14,6 @@ use Rattle.selector_tree.specs.declared.selector.Selector.{Selector}
 use Rattle.selector_tree.specs.declared.selector.Simple.{Simple}
 use Rattle.selector_tree.specs.declared.selector.Simple as simple
 use Rattle.selector_tree.specs.declared.selector.Test.{Test}
-use Rattle.selector_tree.specs.declared.selector.TypeName.{TypeName}
 use Rattle.selector_tree.specs.declared.selector.TypeName.TheVariants as types
 use Rattle.selector_tree.specs.declared.triple.Specificity.{Specificity}
 

@@ -1,20 +1,15 @@
 -- How specific selectors are (Selectors 4, section 17; CSS Nesting 1, section 3.1).
-use Rattle.std.specs.Prelude.{ℕ, ◌+◌, List, [], ◌∷◌, map, length, fold, Option, Some, None, if◌then◌else◌, Bool, ◌&&◌, ◌||◌, nat_eq, nat_lt}
+use Rattle.std.specs.Prelude.{ℕ, ◌+◌, List, [], ◌∷◌, map, length, fold, Option, Some, None, if◌then◌else◌}
 use Rattle.std.specs.Ordering.{nat_cmp, is_lt}
 use Rattle.std.specs.declared.cmp.Ordering.{Ordering}
 use Rattle.std.specs.Cmp.Lexicographic.{slice_cmp}
 use Prim.Native.Nat.{min}
 use Rattle.selector_tree.specs.declared.triple.Specificity.{Specificity}
 use Rattle.selector_tree.specs.declared.selector.TypeName.TheVariants as types
-use Rattle.selector_tree.specs.declared.selector.Combinator.{Combinator}
 use Rattle.selector_tree.specs.declared.selector.TypeName.{TypeName}
-use Rattle.selector_tree.specs.declared.selector.Attribute as attribute
 use Rattle.selector_tree.specs.declared.selector.Tail as tail
 use Rattle.selector_tree.specs.declared.selector.Simple.{Simple}
-use Rattle.selector_tree.specs.declared.selector.Simple as simple
 use Rattle.selector_tree.specs.declared.selector.Compound as compound
-use Rattle.selector_tree.specs.declared.selector.Link as link
-use Rattle.selector_tree.specs.declared.selector.Part as part
 use Rattle.selector_tree.specs.declared.selector.Selector as selector
 use Rattle.selector_tree.specs.BareFold.{BareSteps, bare_simple, bare_compound, bare_selector}
 

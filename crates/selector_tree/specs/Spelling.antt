@@ -1,6 +1,6 @@
 -- How selectors are spelled: the component values that each is written with (Selectors 4, section 18, Grammar; CSSOM,
 -- section 5.2; this project's own choice of white space). Texts and words are derived from these.
-use Rattle.std.specs.Prelude.{ℕ, zero, List, [], ◌∷◌, ◌++◌, map, flat_map, Bool, true, false, not, ◌||◌, ◌&&◌, ◌==◌, if◌then◌else◌, codes, nat_eq, Option, Some, None}
+use Rattle.std.specs.Prelude.{ℕ, List, [], ◌∷◌, ◌++◌, map, flat_map, Bool, true, false, not, ◌||◌, ◌&&◌, ◌==◌, if◌then◌else◌, codes, nat_eq, Option, Some, None}
 use Rattle.std.specs.List.{ends_with, list_all}
 use Rattle.std.specs.Char.{is_ascii_digit}
 use Rattle.std.specs.Int.{is_in_range}

@@ -216,10 +216,7 @@ pub fn attribute_of<'a>(
 }
 
 /// The name that these tokens spell, white space at both ends aside, if they spell one. They hold no comment.
-pub fn lone_name<'a>(
-    alloc: Global,
-    tokens: &[Token<'a>],
-) -> Result<Option<Text<'a>>, OutOfMemory>
+pub fn lone_name<'a>(alloc: Global, tokens: &[Token<'a>]) -> Result<Option<Text<'a>>, OutOfMemory>
     ensures { IfOk result (λ name. name ≡ lone_name tokens.now) }
 {
     let [first, rest @ ..] = after_white(tokens) else {

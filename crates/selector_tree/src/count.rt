@@ -1,7 +1,16 @@
 ghost use Rattle.std.specs.Prelude.{◌≡◌, ◌+◌, map};
 ghost use Rattle.selector_tree.specs.Specificities.{
-    capped, plus, greater_of, greatest, sum_of, nothing, type_specificity, tail_specificity,
-    simple_specificity, compound_specificity, selector_specificity
+  capped,
+  plus,
+  greater_of,
+  greatest,
+  sum_of,
+  nothing,
+  type_specificity,
+  tail_specificity,
+  simple_specificity,
+  compound_specificity,
+  selector_specificity,
 };
 ghost use Rattle.selector_tree.specs.SelectorFold.{compound_of, simple_of};
 

@@ -194,11 +194,7 @@ fn global_of<'a>(compound: Option<Compound<'a>>) -> Option<Simple<'a>>
 }
 
 /// A pseudo-class with its argument.
-fn with_argument<'a>(
-    alloc: Global,
-    name: &str,
-    argument: &str,
-) -> Result<Simple<'a>, OutOfMemory>
+fn with_argument<'a>(alloc: Global, name: &str, argument: &str) -> Result<Simple<'a>, OutOfMemory>
     ensures { IfOk result (λ x. x ≡ with_argument name.now argument.now) }
 {
     let mut text = String::new(alloc);

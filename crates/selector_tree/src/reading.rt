@@ -343,11 +343,7 @@ impl<'a> Reading<'a> {
     }
 }
 
-fn chained<'a>(
-    alloc: Global,
-    at: u32,
-    reading: Reading<'a>,
-) -> Result<Selector<'a>, OutOfMemory>
+fn chained<'a>(alloc: Global, at: u32, reading: Reading<'a>) -> Result<Selector<'a>, OutOfMemory>
     ensures { IfOk result (λ r. r ≡ chained at reading.entry.lead reading.entry.front reading.entry.compound []) }
 {
     let compound = reading.compound;
@@ -435,12 +431,7 @@ impl<'a> Listing<'a> {
     }
 
     /// The member that has begun, or its fault; a fresh one begins.
-    fn end_member(
-        &mut self,
-        alloc: Global,
-        nested: bool,
-        at: u32,
-    ) -> Result<(), SelectorFault>
+    fn end_member(&mut self, alloc: Global, nested: bool, at: u32) -> Result<(), SelectorFault>
         ensures found { OnOk result (with_member nested self.old.list (pending_reading self.old.pending at) ≡ Ok self.new) }
         ensures fault { IfErr result (λ e. FaultIs e (with_member nested self.old.list (pending_reading self.old.pending at))) }
     {

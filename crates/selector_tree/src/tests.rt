@@ -42,18 +42,33 @@ fn reads_and_writes(rt: HostRuntime) -> Result<(), Fail> {
     let cases = [
         ("a:AFTER,[x=y]", "a::after,[x=\"y\"]"),
         ("li:nth-child(2N + 1)", "li:nth-child(2n+1)"),
-        (" a/**/.b  >  #c *+&~.--,-- >x /**/ ", "a.b>#c *+&~.--,-- >x"),
+        (
+            " a/**/.b  >  #c *+&~.--,-- >x /**/ ",
+            "a.b>#c *+&~.--,-- >x",
+        ),
         ("[ HREF *= 'a b' ]", "[HREF*=\"a b\"]"),
         ("[a=b i],[a~/**/=b]", "[a=\"b\"],[a~=\"b\"]"),
         ("[a='\"']", "[a=\"\\\"\"]"),
         (":Not( .a , b > c )", ":not(.a,b>c)"),
-        (":is(),:where( /**/ ),:is(a,:not(*))", ":is(),:where(),:is(a,:not(*))"),
-        (":local(.a.b) :global( c:hover )", ":local(.a.b) :global(c:hover)"),
-        (":nth-of-type(-N- 3):nth-last-child(EVEN)", ":nth-of-type(-n-3):nth-last-child(even)"),
+        (
+            ":is(),:where( /**/ ),:is(a,:not(*))",
+            ":is(),:where(),:is(a,:not(*))",
+        ),
+        (
+            ":local(.a.b) :global( c:hover )",
+            ":local(.a.b) :global(c:hover)",
+        ),
+        (
+            ":nth-of-type(-N- 3):nth-last-child(EVEN)",
+            ":nth-of-type(-n-3):nth-last-child(even)",
+        ),
         (":nth-last-of-type( 5 )", ":nth-last-of-type(5)"),
         (":lang( en ):first-child", ":lang(en):first-child"),
         ("a::before:after:HOVER", "a::before:after:hover"),
-        (":nth-child(+n),:nth-child(+5),:nth-child(7n-1)", ":nth-child(+n),:nth-child(+5),:nth-child(7n-1)"),
+        (
+            ":nth-child(+n),:nth-child(+5),:nth-child(7n-1)",
+            ":nth-child(+n),:nth-child(+5),:nth-child(7n-1)",
+        ),
         ("p:has(a)", "p"),
     ];
     for (text, wanted) in cases {
@@ -91,7 +106,10 @@ fn refuses(rt: HostRuntime) -> Result<(), Fail> {
 
 #[test]
 fn counts(rt: HostRuntime) -> Result<(), Fail> {
-    let parts = prelude(rt.alloc(), "a.b#c:not(.d,#e.f)>:is(p,q):where(#x)[y]::before:hover")?;
+    let parts = prelude(
+        rt.alloc(),
+        "a.b#c:not(.d,#e.f)>:is(p,q):where(#x)[y]::before:hover",
+    )?;
     let list = read_list(rt.alloc(), parts.as_slice(), 999, false)?;
     let none = Specificity { a: 0, b: 0, c: 0 };
     let wanted = Specificity { a: 2, b: 4, c: 3 };

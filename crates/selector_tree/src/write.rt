@@ -7,7 +7,9 @@ ghost use Rattle.selector_tree.specs.Spelling.{attribute_spelling, combinator_sp
 ghost use Rattle.selector_tree.specs.Private.Texts.{comma_text, links_text, parts_text};
 ghost use Rattle.std.specs.Prelude.{◌≡◌, ◌++◌, ◌∷◌, [], codes, flat_map, IfOk, OnErr, OnOk};
 
-use crate::selector::{Attribute, Combinator, Compound, Link, Part, Selector, Simple, Tail, Test, TypeName};
+use crate::selector::{
+    Attribute, Combinator, Compound, Link, Part, Selector, Simple, Tail, Test, TypeName,
+};
 use css_tokens::{List, OutOfMemory, Text};
 
 fn write_bytes(bytes: &[u8], out: &mut List<u8>) -> Result<(), OutOfMemory>
@@ -189,7 +191,11 @@ fn write_comma(comma: bool, out: &mut List<u8>) -> Result<(), OutOfMemory>
     ensures ok { OnOk result (out.new ≡ out.old ++ comma_text comma) }
     ensures err { OnErr result (AppendsFront out.old out.new (comma_text comma)) }
 {
-    if comma { write_bytes(b",", out) } else { write_bytes(b"", out) }
+    if comma {
+        write_bytes(b",", out)
+    } else {
+        write_bytes(b"", out)
+    }
 }
 
 #[cycle(writes)]

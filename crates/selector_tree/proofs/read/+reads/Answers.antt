@@ -1,7 +1,6 @@
-use Rattle.std.proofs.Common.{◌≡◌, ℕ, List, drop, map, length, false, true, ap, sym, subst, ◌∙◌, ◌+◌, rules}
+use Rattle.std.proofs.Common.{◌≡◌, ℕ, List, drop, map, ap, sym, subst, ◌∙◌, ◌+◌, rules}
 use Rattle.std.specs.Prelude.{Result}
 use Rattle.std.specs.Result.{IsErrAnd}
-use Rattle.std.specs.List.{list_all}
 use Rattle.std.proofs.Math.ListN.{drop_of_length-le}
 use Rattle.std.proofs.lemmas.List.Folds.{list_all-map}
 use Rattle.std.proofs.lemmas.Result.{err_from_is_err_and}
@@ -67,9 +66,9 @@ listing_of-returns-in_err-step t c =
     let same = ap (λ (w : Sign). listing_step c.args.nested l w c.place_of-at.result) c.in_ok-sign.ensures ∙ ap (λ (n : ℕ). listing_step c.args.nested l m.sign n) c.place_of-at.ensures in
     subst (λ (r : Result Listing SelectorFault). Reads c.args.nested r (map mark_of all)) (sym e.1)
     (λ end.
-        subst (λ (r : Result (List Selector) ℕ). FaultIs e.0 r)
-        (ap (λ (cs : List Component). behind_list l.list (list_from c.args.nested l.pending (map mark_of cs) end)) (sym here) ∙ c.loop-component.invariant end)
-        (step-fault c.args.nested l m (map mark_of (drop (i + 1) all)) end e.0 (subst (λ (r : Result Listing ℕ). FaultIs e.0 r) same e.2)))
+    subst (λ (r : Result (List Selector) ℕ). FaultIs e.0 r)
+    (ap (λ (cs : List Component). behind_list l.list (list_from c.args.nested l.pending (map mark_of cs) end)) (sym here) ∙ c.loop-component.invariant end)
+    (step-fault c.args.nested l m (map mark_of (drop (i + 1) all)) end e.0 (subst (λ (r : Result Listing ℕ). FaultIs e.0 r) same e.2)))
 
 pub call_of-returns-then-takes_list : goal.call_of-returns-then-takes_list
 call_of-returns-then-takes_list t c =

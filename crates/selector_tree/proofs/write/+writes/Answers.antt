@@ -1,4 +1,4 @@
-use Rattle.std.proofs.Common.{◌≡◌, ℕ, List, ◌∷◌, ◌++◌, drop, refl, sym, ap, ◌+◌, ◌∙◌, append_assoc}
+use Rattle.std.proofs.Common.{List, ◌++◌, drop, refl, sym, ap, ◌+◌, ◌∙◌, append_assoc}
 use Rattle.std.specs.Prelude.{codes}
 use Rattle.selector_tree.specs.declared.selector.Link.{Link}
 use Rattle.selector_tree.specs.declared.selector.Part.{Part}

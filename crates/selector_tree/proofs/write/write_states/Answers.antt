@@ -1,4 +1,4 @@
-use Rattle.std.proofs.Common.{ℕ, List, drop, ap, ◌+◌, ◌++◌}
+use Rattle.std.proofs.Common.{drop, ap, ◌+◌, ◌++◌}
 use Rattle.std.specs.Prelude.{codes}
 use Rattle.selector_tree.proofs.SpellingTexts.{states_text}
 use Rattle.selector_tree.proofs.WritingLemmas.{within, on_err, at-item}

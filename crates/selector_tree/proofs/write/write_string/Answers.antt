@@ -1,4 +1,4 @@
-use Rattle.std.proofs.Common.{◌≡◌, ℕ, List, [], ◌∷◌, ◌++◌, refl, ap, ◌∙◌}
+use Rattle.std.proofs.Common.{◌≡◌, ℕ, List, ◌++◌, refl, ap, ◌∙◌}
 use Rattle.std.specs.Prelude.{flat_map, codes}
 use Rattle.selector_tree.specs.Spelling.{string_byte}
 use Rattle.selector_tree.proofs.WritingLemmas.{start, more, within, within_last, on_err, on_err_map}

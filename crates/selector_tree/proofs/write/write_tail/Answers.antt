@@ -1,4 +1,4 @@
-use Rattle.std.proofs.Common.{◌≡◌, ℕ, List, ◌++◌, ap, ◌∙◌}
+use Rattle.std.proofs.Common.{◌++◌, ap, ◌∙◌}
 use Rattle.std.specs.Prelude.{codes, Option}
 use Rattle.selector_tree.specs.declared.selector.Tail.{Tail}
 use Rattle.selector_tree.specs.Spelling.{text_of, tail_spelling}
