@@ -1,13 +1,11 @@
 -- A text is read again as the words that it was made of.
-use Rattle.std.proofs.Common.{◌≡◌, ℕ, ◌+◌, ◌≤◌, List, [], ◌∷◌, ◌++◌, map, length, drop, Bool, true, false, not, ◌&&◌, ◌||◌, ◌⊎◌, ltb, refl, sym, inl, inr, ap, ap₂, ◌∙◌, subst, Some, is_some, arith, codes, ltb-false, eq-eqb}
+use Rattle.std.proofs.Common.{◌≡◌, ℕ, ◌+◌, ◌≤◌, List, [], ◌∷◌, ◌++◌, length, drop, Bool, true, false, not, ◌&&◌, ◌||◌, ◌⊎◌, ltb, refl, sym, inl, inr, ap, ap₂, ◌∙◌, subst, Some, is_some, arith, codes, ltb-false, eq-eqb}
 use Rattle.std.proofs.lemmas.Bool.{cases_Bool, and_parts, and_from, both_ways, not-false}
 use Rattle.std.proofs.lemmas.List.{map-append}
 use Rattle.std.specs.Char.{to_ascii_lowercase}
 use Rattle.std.specs.Option.{option_map}
 use Rattle.std.specs.List.{AllByRecursion, list_any}
-use lib.Pointwise.{bytes_decides}
 use Rattle.css_tokens.specs.declared.class.Class.{Class}
-use Rattle.css_tokens.specs.declared.class.Class.TheVariants as class
 use Rattle.css_tokens.specs.declared.kind.Kind.{Kind}
 use Rattle.css_tokens.specs.declared.kind.Kind.TheVariants as kind
 use Rattle.css_tokens.specs.declared.machine.State.{State}

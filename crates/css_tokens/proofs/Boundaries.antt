@@ -1,10 +1,9 @@
 -- A token of a text in UTF-8 ends where a character does.
-use Rattle.std.proofs.Common.{◌≡◌, ℕ, suc, zero, ◌+◌, ◌<◌, ◌≤◌, List, [], ◌∷◌, ◌++◌, length, take, drop, get_or, Bool, true, false, ◌||◌, not, refl, sym, inl, inr, ap, ap₂, ◌∙◌, subst, Option, Some, None, is_some, arith, add-one, add_comm, ◌&&◌, ltb, ltb-true, ltb-false, drop-cons}
+use Rattle.std.proofs.Common.{◌≡◌, ℕ, suc, zero, ◌+◌, ◌<◌, ◌≤◌, List, [], ◌∷◌, length, take, drop, get_or, Bool, true, false, ◌||◌, not, refl, sym, inl, inr, ap, ap₂, ◌∙◌, subst, Option, Some, None, is_some, arith, add-one, add_comm, ◌&&◌, ltb, ltb-true, ltb-false, drop-cons}
 use Rattle.std.proofs.lemmas.Bool.{cases_Bool}
 use Rattle.std.proofs.lemmas.Bool.Decides.{nat_tests}
 use Rattle.std.proofs.lemmas.Str.{IsUtf8-drop, IsCharBoundary-start, IsCharBoundary-from_rest, IsCharBoundary-end, IsCharBoundary-before_ascii, IsCharBoundary-after_ascii}
 use Rattle.std.specs.Str.{IsUtf8, IsCharBoundary}
-use Rattle.std.specs.Option.{option_map}
 use Rattle.css_tokens.specs.declared.class.Class.{Class}
 use Rattle.css_tokens.specs.declared.class.Class.TheVariants as class
 use Rattle.css_tokens.specs.declared.kind.Kind.{Kind}
@@ -13,7 +12,7 @@ use Rattle.css_tokens.specs.declared.machine.State.TheVariants as state
 use Rattle.css_tokens.specs.Characters.{class_of}
 use Rattle.css_tokens.specs.Private.Machine.{next, ended}
 use Rattle.css_tokens.specs.Kinds.{table, url_table}
-use Rattle.css_tokens.specs.Tokens.{classes_of, as_front, longer, or_else, first_front, front_of, url_rule, is_url, quote_follows}
+use Rattle.css_tokens.specs.Tokens.{classes_of, longer, first_front, front_of, url_rule, is_url, quote_follows}
 use Rattle.css_tokens.proofs.Reading.{mapped, chained}
 use Rattle.css_tokens.proofs.Fronts.{longest_in, longest_in-nil, longest_in-step}
 use Rattle.css_tokens.proofs.MachineStates.{implied, each_state}

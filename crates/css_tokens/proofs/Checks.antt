@@ -1,5 +1,5 @@
 -- A text in UTF-8 is refused at its first character that no text may hold.
-use Rattle.std.proofs.Common.{◌≡◌, ℕ, List, length, take, Bool, true, cond, nat_eq, refl, ap, ap₂, ◌∙◌, Option, Some, None, eq-eqb}
+use Rattle.std.proofs.Common.{◌≡◌, ℕ, List, length, take, Bool, cond, nat_eq, refl, ap, ap₂, ◌∙◌, Option, Some, None, eq-eqb}
 use Rattle.std.proofs.Math.Seq.{take-length}
 use Rattle.std.proofs.lemmas.Str.{utf8_valid_len-IsUtf8}
 use Rattle.std.specs.Str.{IsUtf8}

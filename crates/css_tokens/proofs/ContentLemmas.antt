@@ -1,5 +1,5 @@
 -- The text of a name means the name.
-use Rattle.std.proofs.Common.{◌≡◌, ℕ, ◌+◌, ◌/◌, ◌<◌, ◌≤◌, List, [], ◌∷◌, ◌++◌, Bool, true, false, ◌&&◌, ◌||◌, not, cond, eqb, ltb, refl, ap, ap₂, sym, ◌∙◌, subst, arith, append_assoc, inl, inr, codes, nat_eq, nat_le, le-leb, ltb-true, ltb-false, if◌then◌else◌}
+use Rattle.std.proofs.Common.{◌≡◌, ℕ, ◌+◌, ◌/◌, ◌<◌, ◌≤◌, List, [], ◌∷◌, ◌++◌, Bool, true, false, ◌&&◌, ◌||◌, not, cond, eqb, ltb, refl, ap, ap₂, sym, ◌∙◌, subst, arith, append_assoc, inl, inr, codes, nat_eq, nat_le, le-leb, ltb-true, ltb-false}
 use Rattle.std.specs.Char.{encode_utf8, is_ascii_digit}
 use Rattle.std.specs.List.{list_all, flat_map}
 use Rattle.std.specs.Str.{IsUtf8, chars}
@@ -8,7 +8,7 @@ use Rattle.std.proofs.lemmas.Str.{encodes-chars, encode_ascii}
 use Rattle.std.proofs.lemmas.List.{append-nil}
 use Rattle.std.proofs.lemmas.Bool.{cases_Bool, and_parts, agree_below_at, eqb-true, not-true, false≢true}
 use Rattle.std.proofs.lemmas.Bool.Decides.{nat_tests}
-use lib.Pointwise.{pointwise, bytes_decides}
+use lib.Pointwise.{bytes_decides}
 use lib.Utf8.{encode, encodes, next}
 use Rattle.css_tokens.specs.NameText.{char_text, first_text, needs_code, stands_for_itself, code_escape, name_text, chars_text, after_dash}
 use Rattle.css_tokens.specs.Trees.{is_text}

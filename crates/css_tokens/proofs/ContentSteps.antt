@@ -1,5 +1,5 @@
 -- A content that is compared with `url` as it is decoded.
-use Rattle.std.proofs.Common.{◌≡◌, ℕ, zero, suc, ◌+◌, ◌-◌, ◌*◌, ◌/◌, ◌<◌, ◌≤◌, List, [], ◌∷◌, ◌++◌, map, length, drop, get_or, Bool, true, false, ◌&&◌, ltb, cond, refl, sym, inl, inr, ap, ap₂, ◌∙◌, subst, arith, codes, nat_eq, ltb-true, nat_lt, add-one, drop-cons}
+use Rattle.std.proofs.Common.{◌≡◌, ℕ, zero, suc, ◌+◌, ◌-◌, ◌*◌, ◌/◌, ◌<◌, ◌≤◌, List, [], ◌∷◌, ◌++◌, map, length, drop, get_or, true, false, ◌&&◌, ltb, cond, refl, sym, inl, inr, ap, ap₂, ◌∙◌, subst, arith, codes, nat_eq, ltb-true, nat_lt, add-one, drop-cons}
 use Rattle.std.proofs.lemmas.Bool.{cases_Bool, and_parts, lt-ltb}
 use Rattle.std.proofs.lemmas.Bool.Decides.{nat_tests}
 use Rattle.std.specs.Char.{to_ascii_lowercase}

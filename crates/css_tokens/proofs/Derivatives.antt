@@ -1,12 +1,12 @@
 -- What is left of a pattern fits what is left of a text.
-use Rattle.std.proofs.Common.{◌≡◌, ℕ, suc, zero, nat_eq, List, [], ◌∷◌, Bool, true, false, ◌||◌, ◌&&◌, inl, inr, refl, sym, ap, ap₂, ◌∙◌, subst, eqb-true, get_or, not, Option, Some, if◌then◌else◌}
+use Rattle.std.proofs.Common.{◌≡◌, suc, zero, nat_eq, List, [], ◌∷◌, Bool, true, false, ◌||◌, ◌&&◌, inl, inr, refl, sym, ap, ap₂, ◌∙◌, subst, eqb-true, get_or, not, Option, Some, if◌then◌else◌}
 use Rattle.std.proofs.lemmas.Bool.{cases_Bool, and_parts, or_cases}
 use Rattle.std.proofs.Math.Path.{fun_ext}
 use Rattle.css_tokens.specs.declared.class.Class.{Class}
 use Rattle.css_tokens.specs.declared.class.Class.TheVariants as class
 use Rattle.css_tokens.specs.declared.kind.Kind.{Kind}
 use Rattle.css_tokens.specs.Characters.{has, is_class, place_of, classes, in_text}
-use Rattle.css_tokens.specs.Patterns.{Pattern, Never, Empty, One, Many, Either, Then, Closed, Star, UpTo, fits, any_cut, any_cuts, is_repeated, is_up_to}
+use Rattle.css_tokens.specs.Patterns.{Pattern, Never, Empty, One, Many, Either, Then, Closed, Star, UpTo, fits, any_cut, any_cuts, is_repeated}
 use Rattle.css_tokens.specs.Kinds.{Row, begins, kind_of}
 use Rattle.css_tokens.specs.Private.Machine.{is_set, is_pattern, holds, is_never, is_blank, either, followed, derive, derived}
 

@@ -1,5 +1,5 @@
 -- A first token ends in no `\` that nothing stands behind.
-use Rattle.std.proofs.Common.{◌≡◌, ℕ, List, [], ◌∷◌, ◌++◌, Bool, true, false, not, ◌&&◌, ◌||◌, refl, sym, inl, inr, ap, ◌∙◌, Option, Some, is_some}
+use Rattle.std.proofs.Common.{◌≡◌, ℕ, List, [], ◌∷◌, ◌++◌, Bool, true, false, not, ◌&&◌, ◌||◌, refl, sym, inl, inr, ap, ◌∙◌, Some, is_some}
 use Rattle.std.proofs.lemmas.Bool.{and_parts, not-true, false≢true}
 use Rattle.std.proofs.lemmas.List.{map-append}
 use Rattle.css_tokens.specs.declared.class.Class.{Class}

@@ -1,6 +1,6 @@
 -- The first token of a text stays first where what follows it changes behind a stop.
-use Rattle.std.proofs.Common.{◌≡◌, List, [], ◌∷◌, ◌++◌, Bool, true, false, not, ◌&&◌, ◌||◌, ◌⊎◌, refl, sym, inl, inr, ap, ap₂, ◌∙◌, subst, Option, Some, None, is_some, ℕ, ◌+◌, arith, if◌then◌else◌}
-use Rattle.std.proofs.lemmas.Bool.{cases_Bool, and_parts, or_cases, not-true, both_ways, false≢true}
+use Rattle.std.proofs.Common.{◌≡◌, List, [], ◌∷◌, ◌++◌, Bool, true, false, not, ◌&&◌, ◌||◌, ◌⊎◌, refl, sym, inl, inr, ap, ap₂, ◌∙◌, Option, Some, None, is_some, ℕ, ◌+◌, arith, if◌then◌else◌}
+use Rattle.std.proofs.lemmas.Bool.{cases_Bool, and_parts, or_cases, not-true, false≢true}
 use Rattle.std.specs.Option.{option_map}
 use Rattle.css_tokens.specs.declared.class.Class.{Class}
 use Rattle.css_tokens.specs.declared.class.Class.TheVariants as class
@@ -11,7 +11,7 @@ use Rattle.css_tokens.specs.declared.machine.State.TheVariants as state
 use Rattle.css_tokens.specs.declared.machine.Holder.TheVariants as holder
 use Rattle.css_tokens.specs.declared.machine.Escape.TheVariants as escape
 use Rattle.css_tokens.specs.Characters.{has, is_class, white}
-use Rattle.css_tokens.specs.Kinds.{starts, begins}
+use Rattle.css_tokens.specs.Kinds.{starts}
 use Rattle.css_tokens.specs.Private.Machine.{next, ended}
 use Rattle.css_tokens.specs.Tokens.{as_front}
 use Rattle.css_tokens.specs.Again.{stops, is_stop, is_odd, is_solid}

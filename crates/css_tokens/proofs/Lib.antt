@@ -3,6 +3,7 @@ pub mod Boundaries
 pub mod Checks
 pub mod ContentLemmas
 pub mod ContentSteps
+pub mod DecodedNames
 pub mod Derivatives
 pub mod Firsts
 pub mod Evens

@@ -1,6 +1,5 @@
 -- The text of a name spells an Ident, with `#` before it a Hash, and what may stand next to it.
-use Rattle.std.proofs.Common.{◌≡◌, ℕ, ◌<◌, ◌≤◌, List, [], ◌∷◌, ◌++◌, Bool, true, false, not, ◌&&◌, ◌||◌, ◌⊎◌, ltb, eqb, cond, refl, sym, ap, ap₂, ◌∙◌, subst, inl, inr, Some, None, codes, arith, nat_eq, ltb-true, ltb-false, append-nil}
-use Rattle.std.specs.Char.{encode_utf8}
+use Rattle.std.proofs.Common.{◌≡◌, ℕ, ◌<◌, ◌≤◌, List, [], ◌∷◌, ◌++◌, Bool, true, false, not, ◌&&◌, ◌||◌, ◌⊎◌, ltb, eqb, cond, refl, sym, ap, ap₂, ◌∙◌, subst, inl, inr, Some, None, codes, arith, nat_eq, ltb-true, ltb-false}
 use Rattle.std.specs.Fmt.{digits}
 use Rattle.std.specs.List.{list_all, flat_map}
 use Rattle.std.specs.Str.{IsUtf8, chars, is_utf8}

@@ -1,5 +1,5 @@
 -- A text reads in one way, or reading stops at one place.
-use Rattle.std.proofs.Common.{◌≡◌, ℕ, suc, zero, ◌+◌, ◌<◌, List, [], ◌∷◌, ◌++◌, length, take, drop, get_or, Bool, true, false, not, ◌&&◌, inl, inr, refl, sym, ap, ap₂, ◌∙◌, subst, Option, Some, None, MatchOption, arith, append-nil, le_of_suc-le-suc, add-one, add_comm}
+use Rattle.std.proofs.Common.{◌≡◌, ℕ, suc, zero, ◌+◌, List, [], ◌∷◌, ◌++◌, length, take, drop, Bool, true, false, not, ◌&&◌, inl, inr, refl, sym, ap, ap₂, ◌∙◌, subst, Option, Some, None, MatchOption, add-one, add_comm}
 use Rattle.std.proofs.Math.Seq.{take-add}
 use Rattle.std.proofs.lemmas.Bool.{cases_Bool, and_parts, and_from, both_ways}
 use Rattle.std.specs.List.{list_all}
@@ -16,7 +16,7 @@ use Rattle.css_tokens.specs.Tokens.{First, ReadsTo, Reads, Stops, StopsAt, Stops
 use Rattle.css_tokens.proofs.Derivatives.{is_class-eq}
 use Rattle.css_tokens.proofs.MachineStates.{is_dead, is_dead-eq, each_state}
 use Rattle.css_tokens.proofs.Fronts.{longest_in, longest_in-step, longest_in-dead}
-use Rattle.css_tokens.proofs.Reading.{mapped, chained, reads_whole}
+use Rattle.css_tokens.proofs.Reading.{mapped, chained}
 
 pub first_one : (t : List ℕ) (v w : Word) → First t v → First t w → v ≡ w
 first_one t v w f g = let e = sym f ∙ g in cc
@@ -71,7 +71,7 @@ stops_at_one t o p h k = h.2 ∙ ap (λ (n : ℕ). mark_length t + n) (places_on
 abbrev pub is_clean : List ℕ → Bool
 is_clean t = list_all (λ b. not (is_control b)) t
 
-dead_control : (s : State) → next s class.Control ≡ state.Dead
+pub dead_control : (s : State) → next s class.Control ≡ state.Dead
 dead_control s = is_dead-eq (next s class.Control) (each_state (λ r. is_dead (next r class.Control)) refl s)
 
 same_inside : {A : Type 0} (a b : A) → Some a ≡ Some b → a ≡ b

@@ -1,10 +1,10 @@
 -- A comment between a word that takes a space and white space.
-use Rattle.std.proofs.Common.{◌≡◌, ℕ, List, [], ◌∷◌, ◌++◌, Bool, true, false, not, cond, refl, ap, sym, ◌∙◌, subst, append_assoc, inl, inr, codes}
+use Rattle.std.proofs.Common.{◌≡◌, ℕ, List, [], ◌∷◌, ◌++◌, Bool, true, false, cond, refl, ap, sym, ◌∙◌, subst, append_assoc, inl, inr, codes}
 use Rattle.std.proofs.lemmas.Bool.{false≢true}
 use Rattle.css_tokens.specs.Characters.{white}
 use Rattle.css_tokens.specs.Again.{begins_none}
 use Rattle.css_tokens.specs.Piece.{Word, spelled}
-use Rattle.css_tokens.specs.Values.{is_white, is_gap, behind_taking, parting_word, takes_space, word_kind}
+use Rattle.css_tokens.specs.Values.{is_white, behind_taking, parting_word, takes_space, word_kind}
 use Rattle.css_tokens.proofs.GapLemmas.{bool_cases}
 use Rattle.css_tokens.proofs.PartedLists.{white_gap}
 use Rattle.css_tokens.proofs.PartedWords.{parted_words}

@@ -1,11 +1,9 @@
 -- The words of parted components are parted words.
-use Rattle.std.proofs.Common.{◌≡◌, ℕ, List, [], ◌∷◌, ◌++◌, map, Bool, true, false, ◌&&◌, not, cond, refl, ap, sym, ◌∙◌, subst, append_assoc, inl, inr, Option, Some, None, codes}
+use Rattle.std.proofs.Common.{◌≡◌, ℕ, List, [], ◌∷◌, ◌++◌, Bool, true, false, ◌&&◌, not, cond, refl, ap, sym, ◌∙◌, subst, append_assoc, inl, inr, codes}
 use Rattle.std.proofs.lemmas.Bool.{not-true}
 use Rattle.std.proofs.lemmas.List.{append-nil, map-append}
-use Rattle.std.specs.List.{filter, list_all}
 use Rattle.css_tokens.specs.declared.kind.Kind.{Kind}
 use Rattle.css_tokens.specs.declared.kind.Kind.TheVariants as kind
-use Rattle.css_tokens.specs.declared.class.Class.{Class}
 use Rattle.css_tokens.specs.declared.class.Class.TheVariants as class
 use Rattle.css_tokens.specs.declared.component.Component.{Component}
 use Rattle.css_tokens.specs.declared.component.Component as component
@@ -20,7 +18,7 @@ use Rattle.css_tokens.specs.Piece.{Piece, Word, word_of}
 use Rattle.css_tokens.specs.Tokens.{classes_of, names}
 use Rattle.css_tokens.specs.Trees.{opens, closing, words_all, is_formed, is_formed-Single, is_formed-Block, all_formed}
 use Rattle.css_tokens.specs.Values.{is_white, is_gap, behind_taking, parted, parting_word, takes_space, word_kind}
-use Rattle.css_tokens.specs.ValueAgain.{head_kind, head_kind-Single, head_kind-Block, takes_last, takes_last-Single, takes_last-Block, parting, parted_within, parted_within-Single, parted_within-Block, all_parted}
+use Rattle.css_tokens.specs.ValueAgain.{head_kind, head_kind-Block, takes_last, takes_last-Single, takes_last-Block, parting, parted_within, parted_within-Single, parted_within-Block, all_parted}
 use Rattle.css_tokens.proofs.AgainLemmas.{words_of, words_of-Single, shape, joined}
 use Rattle.css_tokens.proofs.AgainWords.{first_word}
 use Rattle.css_tokens.proofs.GapLemmas.{bool_cases}

@@ -17,7 +17,7 @@ use Rattle.css_tokens.proofs.PartedLists.{parted_has, parted_starts, parted_ends
 use Rattle.css_tokens.proofs.PartedWords.{parted_words, words_parted, all_parted_formed, head_kind-parted}
 use Rattle.css_tokens.proofs.Rebuilt.{both}
 use Rattle.std.proofs.lemmas.Bool.{not-true}
-use Rattle.css_tokens.proofs.SingleGaps.{EachOf, StartsSolid, EndsSolid, single_gaps_no_runs, single_gaps-same, after_gap_no_runs, after_gap_starts, after_gap-same, before_gap_starts, before_gap_no_runs, before_gap_ends, before_gap-same, last_solid, filter-single_gaps, filter-after_gap, filter-before_gap, single_gaps_have, after_gap_has, before_gap_has}
+use Rattle.css_tokens.proofs.SingleGaps.{EachOf, StartsSolid, EndsSolid, single_gaps_no_runs, after_gap_no_runs, after_gap_starts, after_gap-same, before_gap_starts, before_gap_no_runs, before_gap_ends, before_gap-same, last_solid, filter-single_gaps, filter-after_gap, filter-before_gap, single_gaps_have, after_gap_has, before_gap_has}
 
 abbrev pub IsShort : Word → Type 0
 IsShort w = short_word w ≡ w

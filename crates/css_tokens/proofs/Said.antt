@@ -1,21 +1,19 @@
 -- What a character adds to a content.
-use Rattle.std.proofs.Common.{◌≡◌, ℕ, ◌+◌, ◌-◌, ◌*◌, ◌<◌, ◌≤◌, List, [], ◌∷◌, ◌++◌, length, drop, get_or, Bool, true, false, ◌&&◌, not, cond, refl, sym, ap, ap₂, ◌∙◌, subst, inl, inr, Some, None, arith, append_assoc, append-nil, nat_eq, nat_lt, add-one, drop-cons}
-use Rattle.std.proofs.lemmas.Bool.{cases_Bool, and_parts}
+use Rattle.std.proofs.Common.{◌≡◌, ℕ, ◌+◌, ◌-◌, ◌*◌, ◌<◌, ◌≤◌, List, [], ◌∷◌, ◌++◌, length, drop, get_or, Bool, true, false, ◌&&◌, cond, refl, sym, ap, ap₂, ◌∙◌, subst, arith, append_assoc, nat_eq, nat_lt, add-one, drop-cons}
+use Rattle.std.proofs.lemmas.Bool.{and_parts}
 use Rattle.std.proofs.lemmas.Bool.Decides.{nat_tests}
 use Rattle.std.proofs.lemmas.List.{at_drop_more, drop_all}
-use Rattle.std.proofs.lemmas.Str.{encode_ascii, encodes-chars}
 use Rattle.std.specs.Char.{digit_value, encode_utf8, is_ascii_hexdigit}
 use Rattle.std.specs.List.{list_all}
-use Rattle.std.specs.Str.{IsUtf8, chars}
 use lib.Utf8.{encode, encodes}
 use Rattle.css_tokens.specs.declared.content.Part.{Part}
 use Rattle.css_tokens.specs.declared.content.Part.TheVariants.{Outside, Begun, Digits, Return, Over}
 use Rattle.css_tokens.specs.declared.content.End.{End}
 use Rattle.css_tokens.specs.declared.content.End.TheVariants as end
 use Rattle.css_tokens.specs.declared.content.Said.{Said}
-use Rattle.css_tokens.specs.Contents.{behind, behind_digits, content, content_from, flush, is_space, meant, outside, step}
+use Rattle.css_tokens.specs.Contents.{behind, behind_digits, content_from, flush, is_space, meant, outside, step}
 use Rattle.css_tokens.specs.Private.Contents.{Says, ends_of, escaped_text, is_over}
-use Rattle.css_tokens.proofs.ContentLemmas.{AreHigh, high_encode, is_high}
+use Rattle.css_tokens.proofs.ContentLemmas.{high_encode, is_high}
 
 -- A character from U+0080 on.
 
@@ -53,11 +51,11 @@ high_digits e b h =
     ∙ ap (λ x. cond x (Outside, []) (outside (ends_of e) b)) (high_space b h)
     ∙ high_outside e b h
 
-abbrev high_part : Part → Part
+abbrev pub high_part : Part → Part
 high_part Over = Over
 high_part p = Outside
 
-abbrev high_says : Part → List ℕ → List ℕ
+abbrev pub high_says : Part → List ℕ → List ℕ
 high_says Over t = []
 high_says p t = flush p ++ t
 
@@ -96,7 +94,7 @@ behind_high e Begun b bs rest h k = high_go e Begun b bs rest h k refl refl
 behind_high e (Digits more v) b bs rest h k = high_go e (Digits more v) b bs rest h k refl refl
 behind_high e Return b bs rest h k = high_go e Return b bs rest h k refl refl
 
-high_content : (e : End) (p : Part) (c : ℕ) (rest : List ℕ) → 128 ≤ c → content_from (ends_of e) p (encode c ++ rest) ≡ high_says p (encode c) ++ content_from (ends_of e) (high_part p) rest
+pub high_content : (e : End) (p : Part) (c : ℕ) (rest : List ℕ) → 128 ≤ c → content_from (ends_of e) p (encode c ++ rest) ≡ high_says p (encode c) ++ content_from (ends_of e) (high_part p) rest
 high_content e p c rest h =
     let a = high_encode c h in
     let q = and_parts (is_high a.0) (list_all is_high a.1) (subst (λ x. list_all is_high x ≡ true) a.2 a.3) in

@@ -1,10 +1,8 @@
 -- The first token of a text spells its kind.
-use Rattle.std.proofs.Common.{◌≡◌, ℕ, suc, ◌+◌, ◌≤◌, List, [], ◌∷◌, ◌++◌, map, length, take, drop, Bool, true, false, not, ◌&&◌, ◌||◌, nat_eq, refl, sym, inl, inr, ap, ap₂, ◌∙◌, subst, Option, Some, None, if◌then◌else◌, arith, add_comm, length-take, take-append-drop}
+use Rattle.std.proofs.Common.{◌≡◌, ℕ, ◌+◌, ◌≤◌, List, [], ◌++◌, length, take, drop, Bool, true, false, not, ◌&&◌, ◌||◌, refl, sym, inl, inr, ap, ap₂, ◌∙◌, subst, Option, Some, None, if◌then◌else◌, arith, add_comm, length-take, take-append-drop}
 use Rattle.std.proofs.lemmas.Bool.{cases_Bool, and_parts, and_from}
-use Rattle.std.proofs.lemmas.List.{map-append, drop-take}
+use Rattle.std.proofs.lemmas.List.{map-append}
 use Rattle.std.specs.Option.{option_map, option_and_then}
-use Rattle.std.specs.Char.{to_ascii_lowercase}
-use lib.Pointwise.{pointwise_long}
 use Rattle.css_tokens.specs.declared.class.Class.{Class}
 use Rattle.css_tokens.specs.declared.kind.Kind.{Kind}
 use Rattle.css_tokens.specs.declared.kind.Kind.TheVariants as kind

@@ -60,7 +60,7 @@ pub names-eq : (k : Kind) (o : Option Kind) → names k o ≡ true → o ≡ Som
 names-eq k None h = cc
 names-eq k (Some j) h = ap Some (sym (is_kind-eq k j h))
 
-spelled_state : (u : List ℕ) (k : Kind) → is_kind k kind.Url ≡ false → spells k u ≡ true → ended (run state.Start (classes_of u)) [] ≡ Some k
+pub spelled_state : (u : List ℕ) (k : Kind) → is_kind k kind.Url ≡ false → spells k u ≡ true → ended (run state.Start (classes_of u)) [] ≡ Some k
 unfolding spells
 spelled_state u k f h =
     elim (or_cases (names k (kind_of table (classes_of u) [])) _ h) [

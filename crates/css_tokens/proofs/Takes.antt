@@ -1,12 +1,12 @@
 -- When a word goes on with white space: by the state that the machine comes to.
 use Rattle.std.proofs.Common.{◌≡◌, ℕ, List, [], ◌∷◌, ◌++◌, Bool, true, false, not, ◌&&◌, ◌||◌, refl, sym, inl, inr, ap, ◌∙◌, Option, Some, None}
-use Rattle.std.proofs.lemmas.Bool.{cases_Bool, not-true}
+use Rattle.std.proofs.lemmas.Bool.{cases_Bool}
 use Rattle.std.proofs.lemmas.List.{map-append}
 use Rattle.css_tokens.specs.declared.class.Class.{Class}
 use Rattle.css_tokens.specs.declared.kind.Kind.{Kind}
 use Rattle.css_tokens.specs.declared.machine.State.{State}
 use Rattle.css_tokens.specs.declared.machine.State.TheVariants as state
-use Rattle.css_tokens.specs.Characters.{class_of, has, is_class, white}
+use Rattle.css_tokens.specs.Characters.{class_of, has, white}
 use Rattle.css_tokens.specs.Kinds.{kind_of, table}
 use Rattle.css_tokens.specs.Private.Machine.{next, ended}
 use Rattle.css_tokens.specs.Piece.{Word}

@@ -1,5 +1,5 @@
 -- Which words take a space that follows them.
-use Rattle.std.proofs.Common.{◌≡◌, ℕ, List, [], ◌∷◌, ◌++◌, Bool, true, false, not, ◌&&◌, ◌||◌, nat_eq, refl, sym, inl, inr, ap, ap₂, ◌∙◌, subst, Option, Some, None, codes, ltb, ltb-true, ltb-false, ◌<◌}
+use Rattle.std.proofs.Common.{◌≡◌, ℕ, List, [], ◌∷◌, ◌++◌, Bool, true, false, not, ◌&&◌, ◌||◌, nat_eq, refl, sym, inl, inr, ap, ap₂, ◌∙◌, Option, Some, None, codes, ltb, ltb-true, ltb-false, ◌<◌}
 use Rattle.std.proofs.lemmas.Bool.{cases_Bool, not-true, agree_below_at}
 use Rattle.std.proofs.lemmas.List.{map-append}
 use Rattle.std.specs.List.{list_any}

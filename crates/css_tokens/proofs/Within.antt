@@ -1,5 +1,5 @@
 -- Places of tokens, and of faults, lie within the text.
-use Rattle.std.proofs.Common.{◌≡◌, ℕ, ◌+◌, ◌<◌, ◌≤◌, List, [], ◌∷◌, ◌++◌, map, length, take, drop, Bool, true, false, ◌&&◌, refl, ap, sym, ◌∙◌, subst, Option, Some, None, MatchOption, if◌then◌else◌, arith, length-append, length-drop, nat_eq, nat_lt, le-leb}
+use Rattle.std.proofs.Common.{◌≡◌, ℕ, ◌+◌, ◌<◌, ◌≤◌, List, [], ◌∷◌, ◌++◌, map, length, take, drop, Bool, true, false, refl, ap, sym, ◌∙◌, subst, Option, Some, None, MatchOption, if◌then◌else◌, arith, length-append, length-drop, nat_eq, nat_lt, le-leb}
 use Rattle.std.proofs.lemmas.Bool.{and_from, lt-ltb}
 use Rattle.std.proofs.lemmas.List.{length-take}
 use Rattle.std.proofs.lemmas.List.Quantifiers.{position-Some}

@@ -1,5 +1,5 @@
 -- What the text of a token means, its escapes decoded (CSS Syntax 3, section 4.3.7).
-use Rattle.std.specs.Prelude.{ℕ, List, [], ◌∷◌, ◌++◌, Bool, true, false, ◌&&◌, ◌||◌, ◌==◌, ◌+◌, ◌-◌, ◌*◌, if◌then◌else◌, nat_lt, nat_eq, map, codes}
+use Rattle.std.specs.Prelude.{ℕ, List, [], ◌∷◌, ◌++◌, Bool, false, ◌&&◌, ◌||◌, ◌==◌, ◌+◌, ◌-◌, ◌*◌, if◌then◌else◌, nat_lt, nat_eq, map, codes}
 use Rattle.std.specs.Char.{encode_utf8, to_ascii_lowercase, is_ascii_hexdigit, digit_value}
 use Rattle.std.specs.Int.{is_in_range}
 use lib.Pointwise.{pointwise}

@@ -1,7 +1,7 @@
 //! Worked examples of the definitions of this crate, each the contract of a function that does nothing.
 
-ghost use Rattle.std.specs.Prelude.{◌≡◌, List, [], ◌∷◌, true, false, Some, None, codes};
-ghost use Rattle.css_tokens.specs.declared.kind.Kind.TheVariants.{White, Comment, Ident, Function, Url, At, Hash, String as quoted, Number, Percentage, Dimension, Colon, Semicolon, Comma, Open, Close, Delim, Cdo, Cdc};
+ghost use Rattle.std.specs.Prelude.{◌≡◌, [], ◌∷◌, true, false, Some, None, codes};
+ghost use Rattle.css_tokens.specs.declared.kind.Kind.TheVariants.{White, Comment, Ident, Function, Url, At, Hash, String as quoted, Number, Percentage, Dimension, Open, Close, Delim, Cdo, Cdc};
 ghost use Rattle.css_tokens.specs.Piece.{spelled};
 ghost use Rattle.css_tokens.specs.Contents.{content, is_paren, never};
 ghost use Rattle.css_tokens.specs.Names.{name_of_word};

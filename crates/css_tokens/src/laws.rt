@@ -1,6 +1,6 @@
 ghost use Rattle.std.specs.Prelude.{ℕ, List, ◌∷◌, [], ◌++◌, ◌≡◌, ◌≢◌, ◌≤◌, ◌⊎◌, IsTrue, true, false, codes, length, map};
 ghost use Rattle.std.specs.List.{AllByRecursion, list_all};
-ghost use Rattle.std.specs.Str.{str_to_ascii_lowercase};
+ghost use Rattle.std.specs.Str.{IsUtf8, str_to_ascii_lowercase};
 ghost use Rattle.css_tokens.specs.declared.component.Component.{Component};
 ghost use Rattle.css_tokens.specs.declared.class.Class.TheVariants as class;
 ghost use Rattle.css_tokens.specs.declared.kind.Kind.TheVariants as kind;
@@ -83,12 +83,15 @@ pub fn values_again()
 {}
 
 /// A name is not empty, in UTF-8, and without U+0000. Its text spells an Ident, and with `#` before it a Hash, and means
-/// the name again. The first token of a text spells its kind.
+/// the name again. What an Ident, a Hash or an At in UTF-8 holds, its escapes decoded, is a name. The first token of a text spells its kind.
 pub fn names_spell()
     ensures ident { (n : List ℕ) → is_name n ≡ true → spells kind.Ident (name_text n) ≡ true }
     ensures hash { (n : List ℕ) → is_name n ≡ true → spells kind.Hash (codes "#" ++ name_text n) ≡ true }
     ensures again { (n : List ℕ) → is_name n ≡ true → name_of_word kind.Ident (name_text n) ≡ n }
     ensures hash_again { (n : List ℕ) → is_name n ≡ true → name_of_word kind.Hash (codes "#" ++ name_text n) ≡ n }
+    ensures decoded { (t : List ℕ) → IsUtf8 t → spells kind.Ident t ≡ true → is_name (name_of_word kind.Ident t) ≡ true }
+    ensures hash_decoded { (t : List ℕ) → IsUtf8 t → spells kind.Hash (codes "#" ++ t) ≡ true → is_name (name_of_word kind.Hash (codes "#" ++ t)) ≡ true }
+    ensures at_decoded { (t : List ℕ) → IsUtf8 t → spells kind.At (codes "@" ++ t) ≡ true → is_name (name_of_word kind.At (codes "@" ++ t)) ≡ true }
     ensures first { (t : List ℕ) (w : Word) → First t w → spells w.kind w.text ≡ true }
 {}
 

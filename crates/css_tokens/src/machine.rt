@@ -1,7 +1,7 @@
 ghost use Rattle.std.specs.Prelude.{◌≡◌, map, ◌∷◌, []};
 ghost use Rattle.css_tokens.specs.Characters.{class_of};
-ghost use Rattle.css_tokens.specs.Private.Machine.{next, from_start, from_text, from_name, from_number, from_exponent, from_url, from_escape, from_digits, from_around, around, in_quotes, ended, ended_escape};
-ghost use Rattle.css_tokens.specs.Characters.{has, hex, white, newline};
+ghost use Rattle.css_tokens.specs.Private.Machine.{next, from_start, from_text, from_name, from_number, from_exponent, from_url, from_escape, from_digits, from_around, around, ended, ended_escape};
+ghost use Rattle.css_tokens.specs.Characters.{has, hex};
 
 use crate::Kind;
 use crate::class::{Class, classify};

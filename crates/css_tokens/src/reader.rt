@@ -1,7 +1,7 @@
-ghost use Rattle.std.specs.Prelude.{◌≡◌, ◌+◌, ◌-◌, ◌*◌, ◌^◌, ◌<◌, ◌≤◌, ◌∷◌, ◌&&◌, [], ℕ, IsTrue, IfOk, IfErr, IfSome, IfNone, Some, None, not, map, length};
+ghost use Rattle.std.specs.Prelude.{◌≡◌, ◌+◌, ◌-◌, ◌*◌, ◌^◌, ◌<◌, ◌≤◌, ◌∷◌, ◌&&◌, [], ℕ, IfOk, IfErr, IfSome, IfNone, Some, None, not, map, length};
 ghost use Rattle.std.specs.List.{position, list_any};
 ghost use Rattle.std.specs.Option.{option_map};
-ghost use Rattle.css_tokens.specs.Characters.{class_of, has, white};
+ghost use Rattle.css_tokens.specs.Characters.{has, white};
 ghost use Rattle.css_tokens.specs.Contents.{is_url_name};
 ghost use Rattle.css_tokens.specs.Kinds.{is_kind, kind_of};
 ghost use Rattle.css_tokens.specs.Private.Machine.{rows};

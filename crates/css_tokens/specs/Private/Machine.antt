@@ -1,5 +1,5 @@
 -- The machine that reads one token: its states, as what is left of the rows of the table once a text has been read.
-use Rattle.std.specs.Prelude.{ℕ, suc, zero, nat_eq, List, [], ◌∷◌, Bool, true, false, ◌||◌, ◌&&◌, ◌++◌, not, Option, Some, None, if◌then◌else◌}
+use Rattle.std.specs.Prelude.{suc, zero, nat_eq, List, [], ◌∷◌, Bool, true, false, ◌||◌, ◌&&◌, ◌++◌, not, Option, Some, None, if◌then◌else◌}
 use lib.Pointwise.{pointwise}
 use Rattle.css_tokens.specs.declared.kind.Kind.{Kind}
 use Rattle.css_tokens.specs.declared.kind.Kind.TheVariants as kind

@@ -1,4 +1,4 @@
-use Rattle.std.proofs.Common.{◌+◌, length, drop, arith, refl, ap, subst, ◌∙◌}
+use Rattle.std.proofs.Common.{◌+◌, drop, arith, refl, ap, subst, ◌∙◌}
 use Rattle.std.proofs.lemmas.List.{drop_all}
 use Rattle.css_tokens.specs.Private.Contents.{letters_after}
 use Rattle.css_tokens.proofs.ContentSteps.{From, from_turn, from_other, from_end}

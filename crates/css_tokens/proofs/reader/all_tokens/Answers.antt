@@ -1,4 +1,4 @@
-use Rattle.std.proofs.Common.{length, ap, arith, rules, ◌∙◌, subst, sym}
+use Rattle.std.proofs.Common.{length, ap, arith, rules, subst, sym}
 use Rattle.std.specs.Str.{IsCharBoundary}
 use Rattle.css_tokens.specs.Piece.{Piece}
 use Rattle.css_tokens.proofs.Reading.{turn_fits, turn_reads, turn_placed, turn_size}

@@ -1,4 +1,4 @@
-use Rattle.std.proofs.Common.{sym, ap, ◌∙◌, drop}
+use Rattle.std.proofs.Common.{sym, ap, ◌∙◌}
 use Rattle.std.specs.Option.{option_map}
 use Rattle.css_tokens.specs.Kinds.{url_table}
 use Rattle.css_tokens.specs.Tokens.{front_of, longer}

@@ -1,4 +1,4 @@
-use Rattle.std.proofs.Common.{◌≡◌, ◌+◌, suc, take, length, get_or, [], arith, sym, ap, ap₂, ◌∙◌, ℕ, List, add-one}
+use Rattle.std.proofs.Common.{take, [], arith, sym, ap, ap₂, ◌∙◌, ℕ, add-one}
 use Rattle.std.proofs.lemmas.List.{take_all}
 use Rattle.css_tokens.specs.declared.class.Class.{Class}
 use Rattle.css_tokens.specs.declared.class.Class.TheVariants as class
