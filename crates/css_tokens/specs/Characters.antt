@@ -113,11 +113,11 @@ white = class.Blank ∷ newline
 abbrev pub hex : List Class
 hex = class.Digit ∷ class.Exponent ∷ class.Hex ∷ []
 
--- the characters that a name begins with
+-- the characters that a name begins with: letters, `_`, and each byte of a character from U+0080 on (the hexadecimal letters are classes of their own)
 abbrev pub name_start : List Class
 name_start = class.Exponent ∷ class.Hex ∷ class.Letter ∷ class.High ∷ []
 
--- the characters of names
+-- the characters of names: those that begin one, digits and `-`
 abbrev pub name : List Class
 name = class.Exponent ∷ class.Hex ∷ class.Letter ∷ class.High ∷ class.Digit ∷ class.Minus ∷ []
 

@@ -6,6 +6,7 @@ use Rattle.css_tokens.specs.declared.class.Class.TheVariants as class
 use Rattle.css_tokens.specs.Characters.{has, is_class, in_text}
 
 -- `Never` fits no text, `Empty` the empty one, `One` a character of the set, `Many` any number of them, `Either` what one of two fits, and `Then` one after the other.
+-- `Star` fits any number of what its pattern fits, one after the other, and `UpTo` at most so many characters of the set.
 -- `Closed` fits what follows the `/*` of a comment: up to and including the first `*/`. Its flag says that a `*` stands right before.
 pub data Pattern : Type 0 where
   Never : Pattern

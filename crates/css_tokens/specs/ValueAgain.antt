@@ -114,6 +114,10 @@ all_parted cs = parted head_kind parting takes_last (map parted_within cs)
 abbrev pub again : Component → Component
 again c = parted_within (shortened c)
 
+-- the components in a block as they print
+abbrev pub all_again : List Component → List Component
+all_again cs = all_parted (all_shortened cs)
+
 -- The components of a value as it prints: white space and comments short, each run of them as one, none at either end, and
 -- a comment before the white space that an escape would take.
 abbrev pub value_again : List Component → List Component
@@ -140,3 +144,11 @@ parted_within-Single p = fold_out-Component Component block.Block component_part
 -- A block keeps its brackets, with the components in it parted.
 pub parted_within-Block : (b : block.Block) → parted_within (component.Block b) ≡ component.Block (record { opening = b.opening; items = all_parted b.items; close = b.close })
 parted_within-Block b = fold_out-Component Component block.Block component_parted block_parted (component.Block b) ∙ ap layer_parted (outs-Block b) ∙ ap component.Block (block.fold_out-Block Component block.Block component_parted block_parted b)
+
+-- A single token prints as that token, short.
+pub again-Single : (p : Piece) → again (component.Single p) ≡ component.Single (short_piece p)
+again-Single p = ap parted_within (shortened-Single p) ∙ parted_within-Single (short_piece p)
+
+-- A block prints with its brackets and the printed components in it.
+pub again-Block : (b : block.Block) → again (component.Block b) ≡ component.Block (record { opening = b.opening; items = all_again b.items; close = b.close })
+again-Block b = ap parted_within (shortened-Block b) ∙ parted_within-Block (record { opening = b.opening; items = all_shortened b.items; close = b.close })
