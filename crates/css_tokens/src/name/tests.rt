@@ -1,5 +1,6 @@
 use super::*;
 use crate::testing::tokens_of;
+use std::test::Fail;
 
 /// The name of the first token of a text, or nothing where it holds none.
 fn name(alloc: Global, text: &str) -> Result<Text<'_>, OutOfMemory> {
@@ -33,5 +34,18 @@ fn names_tokens(rt: HostRuntime) -> Result<(), OutOfMemory> {
     for (text, want) in cases {
         assert_eq!(rt; name(rt.alloc(), text)?.as_str(), want);
     }
+    Ok(())
+}
+
+#[test]
+fn names_a_long_token(rt: HostRuntime) -> Result<(), Fail> {
+    let alloc = rt.alloc();
+    let mut text = String::new(alloc);
+    let mut wanted = String::new(alloc);
+    for _ in 0..20_000 {
+        text.push_str("é\\31 a")?;
+        wanted.push_str("é1a")?;
+    }
+    assert_eq!(rt; name(alloc, &text)?.as_str(), wanted.as_str());
     Ok(())
 }

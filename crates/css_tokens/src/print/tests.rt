@@ -2,6 +2,7 @@ ghost use Rattle.std.specs.Prelude.{◌≢◌, []};
 
 use super::*;
 use std::alloc::Global;
+use std::test::Fail;
 
 fn written(alloc: Global, name: &str) -> Result<List<u8>, OutOfMemory>
     requires { name.now ≢ [] }
@@ -28,5 +29,21 @@ fn writes_names(rt: HostRuntime) -> Result<(), OutOfMemory> {
         written(alloc, "\u{e9}_2")?.as_slice(),
         "\u{e9}_2".as_bytes()
     );
+    Ok(())
+}
+
+#[test]
+fn writes_a_long_name(rt: HostRuntime) -> Result<(), Fail> {
+    let alloc = rt.alloc();
+    let mut name = String::new(alloc);
+    let mut wanted = String::new(alloc);
+    for _ in 0..20_000 {
+        name.push_str("aé b")?;
+        wanted.push_str("aé\\ b")?;
+    }
+    let text = name.as_str();
+    if !text.is_empty() {
+        assert_eq!(rt; written(alloc, text)?.as_slice(), wanted.as_bytes());
+    }
     Ok(())
 }
