@@ -10,7 +10,7 @@ use Rattle.css_rules.specs.declared.selector.Selector.{Selector}
 use Rattle.css_rules.specs.declared.sheet.Item.{Item}
 use Rattle.css_rules.specs.declared.sheet.Item as item
 use Rattle.css_rules.specs.BareSelectors.{bare_list}
-use Rattle.css_tokens.specs.ValueAgain.{again-Single, head_kind-Single}
+use Rattle.css_tokens.specs.ValueAgain.{head_kind-Single, parted_within-Single, shortened-Single, takes_last-Single}
 use Rattle.css_rules.specs.Erased.{erased-Single}
 use Rattle.css_rules.specs.Contexts.{Context, under_list}
 use Rattle.css_rules.specs.Statements.{Statement, says, says-Plain, says-Style}
@@ -30,4 +30,4 @@ pub rule-says : (selectors : List Selector) (items : List Item) (at : ℕ) (c : 
 rule-says selectors items at c = says-Style (record { selectors = selectors; items = items; at = at }) c
 
 -- the equations by which the worked examples of sheets compute
-pub ruleset computing = (outs-Single, block-out, pieces_of-Single, block-pieces, says-Plain, rule-says, again-Single, erased-Single, head_kind-Single)
+pub ruleset computing = (outs-Single, block-out, pieces_of-Single, block-pieces, says-Plain, rule-says, shortened-Single, parted_within-Single, takes_last-Single, erased-Single, head_kind-Single)

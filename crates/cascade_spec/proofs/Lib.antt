@@ -4,3 +4,4 @@ pub mod KeepsLemmas
 pub mod WinnerLemmas
 pub mod RelationLemmas
 pub mod LayerLemmas
+pub mod SpelledWords

@@ -1,8 +1,7 @@
 //! Laws about the definitions of this crate, each the contract of a function that does nothing.
 
-ghost use Rattle.std.specs.Prelude.{◌≡◌, ◌++◌, [], ℕ, List, IsTrue, Bool, Some, flat_map};
+ghost use Rattle.std.specs.Prelude.{◌≡◌, ◌++◌, [], ℕ, List, Bool, Some, flat_map};
 ghost use Rattle.std.specs.List.{AllByRecursion};
-ghost use Rattle.css_tokens.specs.Tokens.{is_plain};
 ghost use Rattle.css_rules.specs.BareSelectors.{BareSelector};
 ghost use Rattle.css_rules.specs.Contexts.{LayerPath, Context, outside, under_list};
 ghost use Rattle.css_rules.specs.Statements.{Statement, say_all, statements_of};
@@ -24,8 +23,8 @@ ghost use Rattle.cascade_spec.specs.Readings.{HasSheet, IsReadAgain, KeepsWinner
 /// The text that the sheet of a text prints as reads as that sheet, and so keeps its winners, and a text reads as one sheet,
 /// places aside.
 pub fn sheets_keep_winners()
-    ensures again { (source : List ℕ) (sheet : Sheet) → IsTrue (is_plain source) → HasSheet source sheet → IsReadAgain source (sheet_text sheet) }
-    ensures kept { (source : List ℕ) (sheet : Sheet) → IsTrue (is_plain source) → HasSheet source sheet → KeepsWinners source (sheet_text sheet) }
+    ensures again { (source : List ℕ) (sheet : Sheet) → HasSheet source sheet → IsReadAgain source (sheet_text sheet) }
+    ensures kept { (source : List ℕ) (sheet : Sheet) → HasSheet source sheet → KeepsWinners source (sheet_text sheet) }
     ensures one { (text : List ℕ) (a b : Sheet) → HasSheet text a → HasSheet text b → statements_of a ≡ statements_of b }
 {
     css_tokens::one_reading();

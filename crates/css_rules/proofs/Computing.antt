@@ -6,7 +6,7 @@ use Rattle.css_tokens.specs.declared.component.Component.TheOpen.{Block}
 use Rattle.css_tokens.specs.declared.component.Component.TheVariants.{outs-Single, outs-Block}
 use Rattle.css_tokens.specs.Piece.{Piece}
 use Rattle.css_tokens.specs.Trees.{closing, pieces_all, pieces_of, pieces_of-Single, pieces_of-Block}
-use Rattle.css_tokens.specs.ValueAgain.{again-Single, head_kind-Single}
+use Rattle.css_tokens.specs.ValueAgain.{head_kind-Single, parted_within-Single, shortened-Single, takes_last-Single}
 use Rattle.css_rules.specs.Erased.{erased-Single}
 use Rattle.css_rules.specs.Contexts.{Context, under_list}
 use Rattle.css_rules.specs.declared.selector.Selector.{Selector}
@@ -36,4 +36,4 @@ pub rule-runs : (selectors : List Selector) (items : List Item) (at : ℕ) (c : 
 rule-runs selectors items at c = runs_within-Style (record { selectors = selectors; items = items; at = at }) c
 
 -- the equations by which the worked examples compute
-pub ruleset computing = (outs-Single, block-out, pieces_of-Single, block-pieces, printed_item-Plain, rule-printed, runs_within-Plain, rule-runs, again-Single, erased-Single, head_kind-Single)
+pub ruleset computing = (outs-Single, block-out, pieces_of-Single, block-pieces, printed_item-Plain, rule-printed, runs_within-Plain, rule-runs, shortened-Single, parted_within-Single, takes_last-Single, erased-Single, head_kind-Single)

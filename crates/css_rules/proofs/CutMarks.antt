@@ -7,7 +7,7 @@ use Rattle.css_tokens.specs.declared.kind.Kind.{Kind}
 use Rattle.css_tokens.specs.declared.kind.Kind.TheVariants as kinds
 use Rattle.css_tokens.specs.Values.{is_gap as is_gap_kind}
 use Rattle.css_rules.specs.declared.cuts.Mark.TheVariants.{Braces, Semicolon, BracesOrSemicolon}
-use Rattle.css_rules.specs.Components.{head, is_single, is_gap, is_ident, is_ident_kind, is_at_keyword, is_at_kind, is_colon, is_colon_kind, is_semicolon, is_semicolon_kind, is_braces, is_custom}
+use Rattle.css_rules.specs.Components.{head, is_single, is_gap, is_ident, is_ident_kind, is_at_keyword, is_at_kind, is_colon, is_colon_kind, is_semicolon, is_semicolon_kind, is_braces, is_custom, name_of}
 use Rattle.css_rules.specs.Cuts.{trimmed_start}
 use Rattle.css_rules.specs.Declarations.{after_colon, begins_custom}
 use Rattle.css_rules.specs.Private.Marks.{EndsAt, is_mark}
@@ -68,12 +68,12 @@ colon-start (b ∷ bs) c behind s = elim (cases_Bool (is_gap b)) [
 
 item-start : (before : List Component) (c : Component) (behind : List Component) → is_braces c ≡ true → begins_custom (trimmed_start before) ≡ begins_custom (trimmed_start (before ++ c ∷ behind))
 item-start [] c behind s =
-    sym (ap begins_custom (trimmed_start-other c behind (block-gap c s)) ∙ ap (λ b. b && (is_custom (head c).text && has_colon (trimmed_start behind))) (block-ident c s))
+    sym (ap begins_custom (trimmed_start-other c behind (block-gap c s)) ∙ ap (λ b. b && (is_custom (name_of (head c)) && has_colon (trimmed_start behind))) (block-ident c s))
 item-start (b ∷ bs) c behind s = elim (cases_Bool (is_gap b)) [
   | inl gap ↦ ap begins_custom (trimmed_start-gap b bs gap) ∙ item-start bs c behind s ∙ sym (ap begins_custom (trimmed_start-gap b (bs ++ c ∷ behind) gap))
   | inr other ↦
       ap begins_custom (trimmed_start-other b bs other)
-      ∙ ap (λ colon. is_ident b && (is_custom (head b).text && colon)) (colon-start bs c behind s)
+      ∙ ap (λ colon. is_ident b && (is_custom (name_of (head b)) && colon)) (colon-start bs c behind s)
       ∙ sym (ap begins_custom (trimmed_start-other b (bs ++ c ∷ behind) other))
 ]
 

@@ -7,12 +7,13 @@ use Rattle.css_tokens.specs.declared.component.Component.{Component}
 use Rattle.css_tokens.specs.declared.component.Component.TheVariants.{outs-Single}
 use Rattle.css_tokens.specs.Piece.{Piece, Word}
 use Rattle.css_tokens.specs.NameText.{name_text}
+use Rattle.css_tokens.specs.Names.{name_of_word}
 use Rattle.css_tokens.specs.Trees.{all_formed, words_all}
 use Rattle.css_tokens.specs.ValueAgain.{value_again}
 use Rattle.std.proofs.Math.Bool.{and-false}
 use Rattle.css_tokens.specs.Values.{is_gap as is_gap_kind}
 use Rattle.css_rules.specs.declared.sheet.Declaration.{Declaration}
-use Rattle.css_rules.specs.Components.{head, is_bang, is_braces, is_semicolon, is_gap, is_custom, is_keyword, layer_is_single, layer_head, is_ident_kind, is_semicolon_kind}
+use Rattle.css_rules.specs.Components.{head, is_bang, is_braces, is_semicolon, is_gap, is_custom, is_keyword, layer_is_single, layer_head, is_ident_kind, is_semicolon_kind, name_of}
 use Rattle.css_rules.specs.Cuts.{cuts_at, trimmed, trimmed_start, trimmed_end}
 use Rattle.css_rules.specs.Declarations.{property_name, after_colon, may_be_value, is_important, value_of, declared, declared_after, declaration_of, begins_custom}
 use Rattle.css_rules.specs.Refusals.{has_sought, is_unbuilt_property, sought_for}
@@ -29,8 +30,8 @@ use Rattle.css_rules.proofs.PlacesTrees.{same-erased}
 use Rattle.css_rules.proofs.ValueFacts.{ValueLaws, any-value, semicolon_layer, bang_layer, braces_layer, trimmed-value, trimmed_end-value, printed-some}
 use Rattle.css_rules.proofs.SoughtAgain.{unsought-again}
 
-abbrev name_of : List ℕ → Component
-name_of name = single_of (word kinds.Ident (name_text name))
+abbrev name_again : List ℕ → Component
+name_again name = single_of (word kinds.Ident (name_text name))
 
 abbrev bang : Component
 bang = single_of (word kinds.Delim (codes "!"))
@@ -61,7 +62,7 @@ important-mark : is_important (trimmed (important ∷ [])) ≡ true
 important-mark =
     ap (λ cs. is_important (trimmed_end cs)) (trimmed_start-other important [] (other-Single (word kinds.Ident (codes "important")) refl))
     ∙ ap is_important (trimmed_end-other [] important (other-Single (word kinds.Ident (codes "important")) refl))
-    ∙ ap (λ v. (layer_is_single v && is_ident_kind (layer_head v).kind) && is_keyword (codes "important") (layer_head v).text) (outs-Single (piece_of (word kinds.Ident (codes "important"))))
+    ∙ ap (λ v. (layer_is_single v && is_ident_kind (layer_head v).kind) && is_keyword (codes "important") (name_of (layer_head v))) (outs-Single (piece_of (word kinds.Ident (codes "important"))))
 
 bang-marked : is_bang bang ≡ true
 bang-marked = bang-Single (piece_of (word kinds.Delim (codes "!")))
@@ -111,20 +112,20 @@ read_again d = record { name = d.name; value = value_again d.value; important = 
 tail_of : Declaration → List Component
 tail_of d = trimmed_end (value_or_space (value_again d.value) ++ importance_again d.important)
 
-trimmed-declaration : (d : Declaration) → trimmed (declaration_again d) ≡ name_of d.name ∷ colon ∷ tail_of d
+trimmed-declaration : (d : Declaration) → trimmed (declaration_again d) ≡ name_again d.name ∷ colon ∷ tail_of d
 unfolding tail_of
 trimmed-declaration d =
     let rest = value_or_space (value_again d.value) ++ importance_again d.important in
     let name_solid = other-Single (word kinds.Ident (name_text d.name)) refl in
-    ap trimmed_end (trimmed_start-other (name_of d.name) (colon ∷ rest) name_solid)
-    ∙ trimmed_end-solid (name_of d.name) (colon ∷ rest) name_solid
-    ∙ ap (λ cs. name_of d.name ∷ cs) (trimmed_end-solid colon rest (other-Single (word kinds.Colon (codes ":")) refl))
+    ap trimmed_end (trimmed_start-other (name_again d.name) (colon ∷ rest) name_solid)
+    ∙ trimmed_end-solid (name_again d.name) (colon ∷ rest) name_solid
+    ∙ ap (λ cs. name_again d.name ∷ cs) (trimmed_end-solid colon rest (other-Single (word kinds.Colon (codes ":")) refl))
 
 abbrev after_name : Declaration → List Component → Option Declaration
-after_name d cs = declared_after (head (name_of d.name)) (after_colon cs)
+after_name d cs = declared_after (head (name_again d.name)) (after_colon cs)
 
 -- the declaration behind its name
-declared-again : ValueLaws → (d : Declaration) → IsPrintableDeclaration d → name_text d.name ≡ d.name → declared_after (head (name_of d.name)) (Some (tail_of d)) ≡ Some (read_again d)
+declared-again : ValueLaws → (d : Declaration) → IsPrintableDeclaration d → name_of_word kinds.Ident (name_text d.name) ≡ d.name → declared_after (head (name_again d.name)) (Some (tail_of d)) ≡ Some (read_again d)
 unfolding tail_of
 declared-again laws d printable plain =
     let value = value_again d.value in
@@ -143,11 +144,11 @@ colon-follows cs =
     ∙ ap (λ b. cond b (Some cs) None) (colon-Single (piece_of (word kinds.Colon (codes ":"))))
 
 -- a printed declaration is read as that declaration
-pub declaration-again : ValueLaws → (d : Declaration) → IsPrintableDeclaration d → name_text d.name ≡ d.name → declaration_of (trimmed (declaration_again d)) ≡ Some (read_again d)
+pub declaration-again : ValueLaws → (d : Declaration) → IsPrintableDeclaration d → name_of_word kinds.Ident (name_text d.name) ≡ d.name → declaration_of (trimmed (declaration_again d)) ≡ Some (read_again d)
 declaration-again laws d printable plain =
     ap declaration_of (trimmed-declaration d)
-    ∙ ap (λ b. cond b (declared_after (head (name_of d.name)) (after_colon (trimmed_start (colon ∷ tail_of d)))) None) (ident-Single (piece_of (word kinds.Ident (name_text d.name))))
-    ∙ ap (declared_after (head (name_of d.name))) (colon-follows (tail_of d))
+    ∙ ap (λ b. cond b (declared_after (head (name_again d.name)) (after_colon (trimmed_start (colon ∷ tail_of d)))) None) (ident-Single (piece_of (word kinds.Ident (name_text d.name))))
+    ∙ ap (declared_after (head (name_again d.name))) (colon-follows (tail_of d))
     ∙ declared-again laws d printable plain
 
 -- which says what it was printed from
@@ -223,28 +224,28 @@ goes-custom before (c ∷ cs) custom s =
     ∙ ap (λ e. not e && goes_on ends_item (before ++ c ∷ []) cs) (and-false (is_braces c))
     ∙ goes-custom (before ++ c ∷ []) cs (λ more. ap (λ bs. begins_custom (trimmed_start bs)) (append_assoc before (c ∷ []) more) ∙ custom (c ∷ more)) (or_false_right (is_semicolon c) (list_any is_semicolon cs) s)
 
-begins-again : (d : Declaration) (more : List Component) → is_custom d.name ≡ true → name_text d.name ≡ d.name → begins_custom (trimmed_start (name_of d.name ∷ colon ∷ more)) ≡ true
+begins-again : (d : Declaration) (more : List Component) → is_custom d.name ≡ true → name_of_word kinds.Ident (name_text d.name) ≡ d.name → begins_custom (trimmed_start (name_again d.name ∷ colon ∷ more)) ≡ true
 begins-again d more custom plain =
-    ap begins_custom (trimmed_start-other (name_of d.name) (colon ∷ more) (other-Single (word kinds.Ident (name_text d.name)) refl))
-    ∙ ap (λ i. i && (is_custom (head (name_of d.name)).text && is_some (after_colon (trimmed_start (colon ∷ more))))) (ident-Single (piece_of (word kinds.Ident (name_text d.name))))
-    ∙ ap (λ o. is_custom (head (name_of d.name)).text && is_some o) (colon-follows more)
-    ∙ ap (λ (p : Piece). is_custom p.text && true) (head-Single (piece_of (word kinds.Ident (name_text d.name))))
+    ap begins_custom (trimmed_start-other (name_again d.name) (colon ∷ more) (other-Single (word kinds.Ident (name_text d.name)) refl))
+    ∙ ap (λ i. i && (is_custom (name_of (head (name_again d.name))) && is_some (after_colon (trimmed_start (colon ∷ more))))) (ident-Single (piece_of (word kinds.Ident (name_text d.name))))
+    ∙ ap (λ o. is_custom (name_of (head (name_again d.name))) && is_some o) (colon-follows more)
+    ∙ ap (λ (p : Piece). is_custom (name_of p) && true) (head-Single (piece_of (word kinds.Ident (name_text d.name))))
     ∙ ap (λ n. is_custom n && true) plain
     ∙ ap (λ b. b && true) custom
 
 -- a printed declaration ends no item
-pub goes-again : ValueLaws → (d : Declaration) → IsPrintableDeclaration d → name_text d.name ≡ d.name → goes_on ends_item [] (declaration_again d) ≡ true
+pub goes-again : ValueLaws → (d : Declaration) → IsPrintableDeclaration d → name_of_word kinds.Ident (name_text d.name) ≡ d.name → goes_on ends_item [] (declaration_again d) ≡ true
 unfolding again_value
 goes-again laws d printable plain =
-    let name = name_of d.name in
+    let name = name_again d.name in
     let front = name ∷ colon ∷ [] in
     ap (λ e. not e && (not (ends_item (name ∷ []) colon) && goes_on ends_item front (again_value d))) (single-goes [] (word kinds.Ident (name_text d.name)) refl)
     ∙ ap (λ e. not e && goes_on ends_item front (again_value d)) (single-goes (name ∷ []) (word kinds.Colon (codes ":")) refl)
     ∙ rest (is_custom d.name) refl
   where
-    rest : (b : Bool) → is_custom d.name ≡ b → goes_on ends_item (name_of d.name ∷ colon ∷ []) (again_value d) ≡ true
-    rest true custom = goes-custom (name_of d.name ∷ colon ∷ []) (again_value d) (λ more. begins-again d more custom plain) (no_semicolon laws d printable)
-    rest false other = goes-plain (name_of d.name ∷ colon ∷ []) (again_value d) (no_semicolon laws d printable) (no_braces laws d printable other)
+    rest : (b : Bool) → is_custom d.name ≡ b → goes_on ends_item (name_again d.name ∷ colon ∷ []) (again_value d) ≡ true
+    rest true custom = goes-custom (name_again d.name ∷ colon ∷ []) (again_value d) (λ more. begins-again d more custom plain) (no_semicolon laws d printable)
+    rest false other = goes-plain (name_again d.name ∷ colon ∷ []) (again_value d) (no_semicolon laws d printable) (no_braces laws d printable other)
 
 built-again : ValueLaws → (d : Declaration) → IsPrintableDeclaration d → is_unbuilt (read_again d) ≡ false
 built-again laws d printable =
@@ -252,10 +253,10 @@ built-again laws d printable =
     ∙ unsought-again laws (sought_for d.name) d.value printable.formed (or_false_right (is_unbuilt_property d.name) (has_sought (sought_for d.name) d.value) printable.built)
 
 -- an item that is a printed declaration is read as that declaration
-pub item-again : ValueLaws → (d : Declaration) (mark : Option Component) → IsPrintableDeclaration d → name_text d.name ≡ d.name → ends_in_braces mark ≡ false
+pub item-again : ValueLaws → (d : Declaration) (mark : Option Component) → IsPrintableDeclaration d → name_of_word kinds.Ident (name_text d.name) ≡ d.name → ends_in_braces mark ≡ false
     → item_of (record { front = declaration_again d; mark = mark }) ≡ Some (read_again d ∷ [])
 item-again laws d mark printable plain ends =
-    let all = name_of d.name ∷ colon ∷ tail_of d in
+    let all = name_again d.name ∷ colon ∷ tail_of d in
     ap (λ (cs : List Component). cond (begins_at_rule cs || ends_in_braces mark) None (plain_item cs)) (trimmed-declaration d)
     ∙ ap (λ b. cond (b || ends_in_braces mark) None (plain_item all)) (at-Single (piece_of (word kinds.Ident (name_text d.name))))
     ∙ ap (λ b. cond b None (plain_item all)) ends

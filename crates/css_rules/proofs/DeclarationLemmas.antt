@@ -1,14 +1,15 @@
 -- Names of properties.
-use Rattle.std.proofs.Common.{◌≡◌, ℕ, List, [], ◌∷◌, Bool, true, false, refl, ◌∙◌, ap, arith, cond, ◌||◌, Some, None, ◌+◌, ◌<◌, ◌≤◌, length, take, drop, slice_range, ◌-◌}
+use Rattle.std.proofs.Common.{◌≡◌, ℕ, List, [], ◌∷◌, Bool, true, false, not, ◌&&◌, inl, inr, refl, sym, ◌∙◌, ap, arith, cond, ◌||◌, Some, None, ◌+◌, ◌<◌, ◌≤◌, length, take, drop, slice_range, ◌-◌}
 use Rattle.std.specs.List.{list_any}
 use Rattle.std.specs.Char.{is_ascii_uppercase, to_ascii_lowercase}
 use Rattle.std.specs.Str.{str_to_ascii_lowercase}
+use Rattle.std.proofs.lemmas.Bool.{cases_Bool, false≢true}
 use Rattle.std.proofs.lemmas.Bool.Decides.{nat_tests}
 use Rattle.css_tokens.specs.declared.component.Component.{Component}
-use Rattle.css_rules.specs.Components.{is_bang}
+use Rattle.css_rules.specs.Components.{is_bang, is_custom}
 use Rattle.css_rules.specs.Cuts.{Cut, cuts, cuts_at, trimmed}
 use Rattle.css_rules.specs.Private.Marks.{IsFirstMark}
-use Rattle.css_rules.specs.Declarations.{value_of, is_important}
+use Rattle.css_rules.specs.Declarations.{value_of, is_important, property_name}
 use Rattle.css_rules.proofs.CutLemmas.{first_cut, plain-cut, EndsCut-at_mark, EndsCut-at_end}
 
 pub or_false_left : (a b : Bool) → (a || b) ≡ false → a ≡ false
@@ -29,6 +30,19 @@ lower-same (b ∷ bs) e =
     let here = lower-one b (or_false_left (is_ascii_uppercase b) (list_any is_ascii_uppercase bs) e) in
     let rest = lower-same bs (or_false_right (is_ascii_uppercase b) (list_any is_ascii_uppercase bs) e) in
     ap (λ x. x ∷ str_to_ascii_lowercase bs) here ∙ ap (λ xs. b ∷ xs) rest
+
+-- the name of a property is kept in lower case where that differs, and else as it is
+pub name_kept : (name : List ℕ) → (not (is_custom name) && list_any is_ascii_uppercase name) ≡ false → name ≡ property_name name
+name_kept name e = elim (cases_Bool (is_custom name)) [
+  | inl custom ↦ sym (ap (λ b. cond b name (str_to_ascii_lowercase name)) custom)
+  | inr other ↦ sym (ap (λ b. cond b name (str_to_ascii_lowercase name)) other ∙ lower-same name (sym (ap (λ b. not b && list_any is_ascii_uppercase name) other) ∙ e))
+]
+
+pub name_lowered : (name : List ℕ) → (not (is_custom name) && list_any is_ascii_uppercase name) ≡ true → str_to_ascii_lowercase name ≡ property_name name
+name_lowered name e = elim (cases_Bool (is_custom name)) [
+  | inl custom ↦ absurd (false≢true (sym (ap (λ b. not b && list_any is_ascii_uppercase name) custom) ∙ e))
+  | inr other ↦ sym (ap (λ b. cond b name (str_to_ascii_lowercase name)) other)
+]
 
 abbrev bang_ends : List Component → Component → Bool
 bang_ends before c = is_bang c

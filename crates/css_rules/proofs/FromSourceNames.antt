@@ -4,58 +4,14 @@ use Rattle.std.specs.List.{list_all}
 use Rattle.std.specs.Char.{to_ascii_lowercase}
 use Rattle.std.specs.Str.{str_to_ascii_lowercase}
 use Rattle.std.proofs.lemmas.Bool.Decides.{nat_tests}
-use Rattle.css_tokens.specs.PlainNames.{is_plain, is_plain_start, is_plain_after_dash, is_plain_name}
+use Rattle.css_tokens.specs.Names.{is_name}
+use Rattle.css_rules.proofs.LowerNames.{lower-name}
 use Rattle.css_rules.specs.Components.{is_custom}
 use Rattle.css_rules.specs.Declarations.{property_name}
 use Rattle.css_rules.proofs.SelectorSpelling.{and-left, and-right, and-both}
 
--- A plain name in lower case is one.
-
-lower-dash : (b : ℕ) → nat_eq (to_ascii_lowercase b) 45 ≡ nat_eq b 45
-lower-dash b = grind (arith, nat_tests)
-
 dash-lower : (b : ℕ) → nat_eq 45 (to_ascii_lowercase b) ≡ nat_eq 45 b
 dash-lower b = grind (arith, nat_tests)
-
-lower-start : (b : ℕ) → is_plain_start b ≡ true → is_plain_start (to_ascii_lowercase b) ≡ true
-lower-start b e = grind (arith, nat_tests)
-
-lower-plain : (b : ℕ) → is_plain b ≡ true → is_plain (to_ascii_lowercase b) ≡ true
-lower-plain b e = grind (arith, nat_tests)
-
-lower-all : (bs : List ℕ) → list_all is_plain bs ≡ true → list_all is_plain (str_to_ascii_lowercase bs) ≡ true
-lower-all [] e = refl
-lower-all (b ∷ bs) e =
-    and-both (is_plain (to_ascii_lowercase b)) (list_all is_plain (str_to_ascii_lowercase bs))
-    (lower-plain b (and-left (is_plain b) (list_all is_plain bs) e))
-    (lower-all bs (and-right (is_plain b) (list_all is_plain bs) e))
-
-lower-from_start : (b : ℕ) (bs : List ℕ) → (is_plain_start b && list_all is_plain bs) ≡ true → (is_plain_start (to_ascii_lowercase b) && list_all is_plain (str_to_ascii_lowercase bs)) ≡ true
-lower-from_start b bs e =
-    and-both (is_plain_start (to_ascii_lowercase b)) (list_all is_plain (str_to_ascii_lowercase bs))
-    (lower-start b (and-left (is_plain_start b) (list_all is_plain bs) e))
-    (lower-all bs (and-right (is_plain_start b) (list_all is_plain bs) e))
-
-lower-second : (b : ℕ) (bs : List ℕ) (dash : Bool) → ((dash || is_plain_start b) && list_all is_plain bs) ≡ true → ((dash || is_plain_start (to_ascii_lowercase b)) && list_all is_plain (str_to_ascii_lowercase bs)) ≡ true
-lower-second b bs true e = lower-all bs e
-lower-second b bs false e = lower-from_start b bs e
-
-lower-behind : (bs : List ℕ) → is_plain_after_dash bs ≡ true → is_plain_after_dash (str_to_ascii_lowercase bs) ≡ true
-lower-behind [] e = e
-lower-behind (b ∷ bs) e =
-    ap (λ dash. (dash || is_plain_start (to_ascii_lowercase b)) && list_all is_plain (str_to_ascii_lowercase bs)) (lower-dash b)
-    ∙ lower-second b bs (nat_eq b 45) e
-
-lower-at : (b : ℕ) (bs : List ℕ) (dash : Bool) → cond dash (is_plain_after_dash bs) (is_plain_start b && list_all is_plain bs) ≡ true
-    → cond dash (is_plain_after_dash (str_to_ascii_lowercase bs)) (is_plain_start (to_ascii_lowercase b) && list_all is_plain (str_to_ascii_lowercase bs)) ≡ true
-lower-at b bs true e = lower-behind bs e
-lower-at b bs false e = lower-from_start b bs e
-
-lower-name : (name : List ℕ) → is_plain_name name ≡ true → is_plain_name (str_to_ascii_lowercase name) ≡ true
-lower-name [] e = e
-lower-name (b ∷ bs) e =
-    ap (λ dash. cond dash (is_plain_after_dash (str_to_ascii_lowercase bs)) (is_plain_start (to_ascii_lowercase b) && list_all is_plain (str_to_ascii_lowercase bs))) (lower-dash b)
-    ∙ lower-at b bs (nat_eq b 45) e
 
 lower-twice_one : (b : ℕ) → to_ascii_lowercase (to_ascii_lowercase b) ≡ to_ascii_lowercase b
 lower-twice_one b = grind (arith, nat_tests)
@@ -78,10 +34,10 @@ lower-custom (b ∷ c ∷ bs) =
 abbrev named_at : List ℕ → Bool → List ℕ
 named_at name custom = cond custom name (str_to_ascii_lowercase name)
 
-pub property-plain : (name : List ℕ) → is_plain_name name ≡ true → is_plain_name (property_name name) ≡ true
-property-plain name e = at (is_custom name)
+pub property-named : (name : List ℕ) → is_name name ≡ true → is_name (property_name name) ≡ true
+property-named name e = at (is_custom name)
   where
-    at : (custom : Bool) → is_plain_name (named_at name custom) ≡ true
+    at : (custom : Bool) → is_name (named_at name custom) ≡ true
     at true = e
     at false = lower-name name e
 

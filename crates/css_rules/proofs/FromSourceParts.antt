@@ -12,12 +12,12 @@ use Rattle.css_tokens.specs.declared.component.Component.TheFolds.{fold-Componen
 use Rattle.css_tokens.specs.declared.kind.Kind.{Kind}
 use Rattle.css_tokens.specs.declared.kind.Kind.TheVariants as kinds
 use Rattle.css_tokens.specs.Piece.{Piece, word_of}
-use Rattle.css_tokens.specs.PlainNames.{is_plain_name}
+use Rattle.css_tokens.specs.Names.{is_name, name_of_word}
 use Rattle.css_tokens.specs.Trees.{pieces_of, pieces_all, words_all, closing, component_pieces, block_pieces, component_formed, block_formed, is_formed, all_formed, opens}
-use Rattle.css_rules.specs.Components.{Layer, head, inside, layer_head, layer_items, layer_is_single, is_ident, is_ident_kind, is_gap}
+use Rattle.css_rules.specs.Components.{Layer, head, inside, layer_head, layer_items, layer_is_single, is_ident, is_ident_kind, is_gap, name_of}
 use Rattle.css_rules.specs.Cuts.{Cut, cuts_behind, with_front, trimmed, trimmed_start, trimmed_end}
 use Rattle.css_rules.specs.Printable.{begins_solid}
-use Rattle.css_rules.specs.ReadableSelectors.{is_spelled, is_spelled_kind}
+use Rattle.css_rules.specs.ReadableSelectors.{is_spelled, is_named, is_clean}
 use Rattle.css_rules.proofs.CutLemmas.{not-true, cuts-unmarked, cuts-marked, trimmed_start-gap, trimmed_start-other}
 use Rattle.css_rules.proofs.CutAgain.{trimmed_end-solid}
 use Rattle.css_rules.proofs.SelectorPlaces.{single-piece}
@@ -163,17 +163,17 @@ sound-inside c e = at (out-Component c) refl
         (and-right (opens b.opening.kind) (all_formed b.items) (sym (block-formed c b is) ∙ and-left (is_formed c) (list_all is_spelled (map word_of (pieces_of c))) e))
         (items-spelled c b is (and-right (is_formed c) (list_all is_spelled (map word_of (pieces_of c))) e))
 
--- The text of an Ident spells one.
+-- An Ident has a name.
 
-ident-kind : (k : Kind) (text : List ℕ) → is_ident_kind k ≡ true → is_spelled_kind k text ≡ true → is_plain_name text ≡ true
+ident-kind : (k : Kind) (text : List ℕ) → is_ident_kind k ≡ true → is_named k text ≡ true → is_name (name_of_word k text) ≡ true
 ident-kind kinds.Ident text is e = e
 ident-kind k text is e = absurd (false≢true is)
 
-pub sound-ident : (c : Component) → is_sound c ≡ true → is_ident c ≡ true → is_plain_name (head c).text ≡ true
+pub sound-ident : (c : Component) → is_sound c ≡ true → is_ident c ≡ true → is_name (name_of (head c)) ≡ true
 sound-ident c e is = at (out-Component c) refl is
   where
-    at : (v : Layer) → out-Component c ≡ v → (layer_is_single v && is_ident_kind (layer_head v).kind) ≡ true → is_plain_name (layer_head v).text ≡ true
+    at : (v : Layer) → out-Component c ≡ v → (layer_is_single v && is_ident_kind (layer_head v).kind) ≡ true → is_name (name_of (layer_head v)) ≡ true
     at (Block b) o i = absurd (false≢true i)
     at (Single p) o i =
         let all = sym (ap (λ ps. list_all is_spelled (map word_of ps)) (single-piece c p o)) ∙ and-right (is_formed c) (list_all is_spelled (map word_of (pieces_of c))) e in
-        ident-kind p.kind p.text i (and-left (is_spelled (word_of p)) true all)
+        ident-kind p.kind p.text i (and-right (is_clean p.text) (is_named p.kind p.text) (and-left (is_spelled (word_of p)) true all))

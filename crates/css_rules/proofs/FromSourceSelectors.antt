@@ -28,6 +28,7 @@ use Rattle.css_rules.specs.Components.{Layer, place_of, is_comma}
 use Rattle.css_rules.specs.Printable.{is_parent, has_parent, is_nesting}
 use Rattle.css_rules.specs.Refusals.{is_ampersand, is_sought, unbuilt_at, sought_in}
 use Rattle.css_rules.specs.Selectors.{with_part, parts_of, compound_with, compound_of, stripped, white_before, sign_before, spaced, clean_signs, Runs, run_before, runs_of, with_link, links_of, selector_with, selector_at, first_place, selector_of, Member, empty_before, with_component, cut_at_commas, members_of}
+use Rattle.css_tokens.specs.Names.{name_of_word}
 use Rattle.css_rules.specs.Signs.{kind_sign, open_sign, sign_of}
 use Rattle.css_rules.proofs.CutLemmas.{not-true}
 use Rattle.css_rules.proofs.SelectorPlaces.{single-piece}
@@ -53,7 +54,7 @@ calm-delim false false false false false true at h = h
 calm-delim false false false false false false at h = refl
 
 calm-kind : (k : Kind) (text : List ℕ) (at : ℕ) → not (is_ampersand k text) ≡ true → calm (kind_sign k text at) ≡ true
-calm-kind kinds.Hash text at h = calm-id (drop 1 text) at _
+calm-kind kinds.Hash text at h = calm-id (name_of_word kinds.Hash text) at _
 calm-kind kinds.Delim text at h = calm-delim (is_text text (codes ">")) (is_text text (codes "+")) (is_text text (codes "~")) (is_text text (codes "*")) (is_text text (codes ".")) (is_text text (codes "&")) at h
 calm-kind k text at h = refl
 

@@ -47,3 +47,8 @@ pub mod FirstFaults
 pub mod FlatTexts
 pub mod Computing
 pub mod SaidRuns
+pub mod NameStarts
+pub mod LowerNames
+pub mod CleanNames
+pub mod ImportantNames
+pub mod CleanTexts

@@ -5,7 +5,7 @@ use Rattle.std.proofs.lemmas.List.{map-append}
 use Rattle.css_tokens.specs.declared.component.Component.{Component}
 use Rattle.css_tokens.specs.Piece.{Piece}
 use Rattle.css_rules.specs.declared.sheet.Declaration.{Declaration}
-use Rattle.css_rules.specs.Components.{head, is_gap, is_ident, is_colon, is_semicolon, is_bang, is_braces, is_custom, is_keyword}
+use Rattle.css_rules.specs.Components.{head, is_gap, is_ident, is_colon, is_semicolon, is_bang, is_braces, is_custom, is_keyword, name_of}
 use Rattle.css_rules.specs.Cuts.{Cut, cuts, cuts_at, cuts_behind, with_front, trimmed, trimmed_start, trimmed_end}
 use Rattle.css_rules.specs.Declarations.{property_name, after_colon, may_be_value, is_important, value_of, declared, declared_after, declaration_of, begins_custom}
 use Rattle.css_rules.specs.declared.refusal.Sought.{Sought}
@@ -99,8 +99,8 @@ may-erased custom (c ∷ cs) = ap (λ b. custom || not b) (any-erased is_braces 
 important-erased : (cs : List Component) → is_important (map erased cs) ≡ is_important cs
 important-erased [] = refl
 important-erased (c ∷ []) =
-    ap (λ b. b && is_keyword (codes "important") (head (erased c)).text) (ident-erased c)
-    ∙ ap (λ (p : Piece). is_ident c && is_keyword (codes "important") p.text) (head-erased c)
+    ap (λ b. b && is_keyword (codes "important") (name_of (head (erased c)))) (ident-erased c)
+    ∙ ap (λ (p : Piece). is_ident c && is_keyword (codes "important") (name_of p)) (head-erased c)
 important-erased (c ∷ d ∷ cs) = refl
 
 abbrev erased_value : List Component × Bool → List Component × Bool
@@ -124,7 +124,7 @@ abbrev pub erased_declaration : Declaration → Declaration
 erased_declaration d = record { name = d.name; value = map erased d.value; important = d.important; at = 0 }
 
 abbrev with_value : Piece → List Component × Bool → Declaration
-with_value name v = record { name = property_name name.text; value = v.0; important = v.1; at = name.at }
+with_value name v = record { name = property_name (name_of name); value = v.0; important = v.1; at = name.at }
 
 declared-at : (name : Piece) (v : List Component × Bool) (b : Bool) → cond b (Some (with_value (placeless name) (erased_value v))) None ≡ option_map erased_declaration (cond b (Some (with_value name v)) None)
 declared-at name v true = refl
@@ -133,8 +133,8 @@ declared-at name v false = refl
 declared-erased : (name : Piece) (o : Option (List Component × Bool)) → declared (placeless name) (option_map erased_value o) ≡ option_map erased_declaration (declared name o)
 declared-erased name None = refl
 declared-erased name (Some v) =
-    ap (λ b. cond b (Some (with_value (placeless name) (erased_value v))) None) (may-erased (is_custom name.text) v.0)
-    ∙ declared-at name v (may_be_value (is_custom name.text) v.0)
+    ap (λ b. cond b (Some (with_value (placeless name) (erased_value v))) None) (may-erased (is_custom (name_of name)) v.0)
+    ∙ declared-at name v (may_be_value (is_custom (name_of name)) v.0)
 
 declared_after-erased : (name : Piece) (o : Option (List Component)) → declared_after (placeless name) (option_map (map erased) o) ≡ option_map erased_declaration (declared_after name o)
 declared_after-erased name None = refl
@@ -166,10 +166,10 @@ some-erased (Some cs) = refl
 custom-erased : (cs : List Component) → begins_custom (map erased cs) ≡ begins_custom cs
 custom-erased [] = refl
 custom-erased (c ∷ cs) =
-    ap (λ b. b && (is_custom (head (erased c)).text && is_some (after_colon (trimmed_start (map erased cs))))) (ident-erased c)
-    ∙ ap (λ (p : Piece). is_ident c && (is_custom p.text && is_some (after_colon (trimmed_start (map erased cs))))) (head-erased c)
-    ∙ ap (λ tail. is_ident c && (is_custom (head c).text && is_some (after_colon tail))) (start-erased cs)
-    ∙ ap (λ b. is_ident c && (is_custom (head c).text && b)) (ap is_some (after-erased (trimmed_start cs)) ∙ some-erased (after_colon (trimmed_start cs)))
+    ap (λ b. b && (is_custom (name_of (head (erased c))) && is_some (after_colon (trimmed_start (map erased cs))))) (ident-erased c)
+    ∙ ap (λ (p : Piece). is_ident c && (is_custom (name_of p) && is_some (after_colon (trimmed_start (map erased cs))))) (head-erased c)
+    ∙ ap (λ tail. is_ident c && (is_custom (name_of (head c)) && is_some (after_colon tail))) (start-erased cs)
+    ∙ ap (λ b. is_ident c && (is_custom (name_of (head c)) && b)) (ap is_some (after-erased (trimmed_start cs)) ∙ some-erased (after_colon (trimmed_start cs)))
 
 ends_item-erased : (before : List Component) (c : Component) → ends_item (map erased before) (erased c) ≡ ends_item before c
 ends_item-erased before c =

@@ -1,5 +1,5 @@
 -- Components with each place at 0: what holds of a component from what holds of those in it, and its tokens.
-use Rattle.std.proofs.Common.{◌≡◌, List, [], ◌∷◌, ◌++◌, map, Bool, true, false, cond, ◌&&◌, refl, sym, ◌∙◌, ap, subst, IsTrue}
+use Rattle.std.proofs.Common.{◌≡◌, List, [], ◌∷◌, ◌++◌, map, Bool, true, false, cond, ◌&&◌, refl, sym, ◌∙◌, ap, subst, IsTrue, codes}
 use Rattle.std.proofs.lemmas.List.{map-append}
 use Rattle.css_tokens.specs.declared.component.Component.{Component, roll-Component, ind-Component}
 use Rattle.css_tokens.specs.declared.component.Component as component
@@ -9,8 +9,9 @@ use Rattle.css_tokens.specs.declared.component.Component.TheVariants.{rolls-Sing
 use Rattle.css_tokens.specs.Piece.{Piece, word_of, spelled}
 use Rattle.css_tokens.specs.Trees.{opens, closing, pieces_of, pieces_all, words_all, is_formed, all_formed, pieces_of-Single, pieces_of-Block, is_formed-Single, is_formed-Block}
 use Rattle.css_tokens.specs.declared.kind.Kind.{Kind}
-use Rattle.css_tokens.specs.Values.{is_gap, is_white, before_run, single_gaps, after_gap, before_gap, value_text, printed_words}
-use Rattle.css_tokens.specs.ValueAgain.{head_kind, again, all_again, value_again, short_piece, head_kind-Single, head_kind-Block, again-Single, again-Block}
+use Rattle.css_tokens.specs.declared.kind.Kind.TheVariants.{Comment}
+use Rattle.css_tokens.specs.Values.{is_gap, is_white, before_run, single_gaps, after_gap, before_gap, parted, behind_taking, value_text, printed_words}
+use Rattle.css_tokens.specs.ValueAgain.{head_kind, shortened, all_shortened, value_shortened, parted_within, all_parted, parting, takes_last, value_again, short_piece, head_kind-Single, head_kind-Block, shortened-Single, shortened-Block, parted_within-Single, parted_within-Block, takes_last-Single, takes_last-Block}
 use Rattle.css_rules.proofs.Heads.{piece_of}
 use Rattle.css_rules.specs.Erased.{placeless, bare_value, erased, erased_block, erased-Single, erased-Block}
 
@@ -165,25 +166,70 @@ kind-erased =
     (λ p. ap head_kind (erased-Single p) ∙ head_kind-Single (placeless p) ∙ sym (head_kind-Single p))
     (λ b each. ap head_kind (erased-Block b) ∙ head_kind-Block (erased_block b) ∙ sym (head_kind-Block b))
 
-abbrev AgainErased : Component → Type 0
-AgainErased c = again (erased c) ≡ erased (again c)
+abbrev ShortErased : Component → Type 0
+ShortErased c = shortened (erased c) ≡ erased (shortened c)
 
-agains-each : (cs : List Component) → Each AgainErased cs → map again (map erased cs) ≡ map erased (map again cs)
-agains-each [] each = refl
-agains-each (c ∷ cs) each = ap (λ d. d ∷ map again (map erased cs)) each.0 ∙ ap (λ ds. erased (again c) ∷ ds) (agains-each cs each.1)
+short-each : (cs : List Component) → Each ShortErased cs → map shortened (map erased cs) ≡ map erased (map shortened cs)
+short-each [] each = refl
+short-each (c ∷ cs) each = ap (λ d. d ∷ map shortened (map erased cs)) each.0 ∙ ap (λ ds. erased (shortened c) ∷ ds) (short-each cs each.1)
 
-all-erased_again : (cs : List Component) → Each AgainErased cs → all_again (map erased cs) ≡ map erased (all_again cs)
-all-erased_again cs each = ap (single_gaps head_kind) (agains-each cs each) ∙ single_gaps-map head_kind erased kind-erased (map again cs)
+all-short_erased : (cs : List Component) → Each ShortErased cs → all_shortened (map erased cs) ≡ map erased (all_shortened cs)
+all-short_erased cs each = ap (single_gaps head_kind) (short-each cs each) ∙ single_gaps-map head_kind erased kind-erased (map shortened cs)
 
-again-erased : (c : Component) → AgainErased c
-again-erased =
-    by_components AgainErased
-    (λ p. ap again (erased-Single p) ∙ again-Single (placeless p) ∙ sym (ap erased (again-Single p) ∙ erased-Single (short_piece p)))
+short-erased : (c : Component) → ShortErased c
+short-erased =
+    by_components ShortErased
+    (λ p. ap shortened (erased-Single p) ∙ shortened-Single (placeless p) ∙ sym (ap erased (shortened-Single p) ∙ erased-Single (short_piece p)))
     (λ b each.
-    let made : block.Block = record { opening = b.opening; items = all_again b.items; close = b.close } in
-    ap again (erased-Block b) ∙ again-Block (erased_block b)
-    ∙ ap (λ cs. component.Block (record { opening = placeless b.opening; items = cs; close = 0 })) (all-erased_again b.items each)
-    ∙ sym (ap erased (again-Block b) ∙ erased-Block made))
+    let made : block.Block = record { opening = b.opening; items = all_shortened b.items; close = b.close } in
+    ap shortened (erased-Block b) ∙ shortened-Block (erased_block b)
+    ∙ ap (λ cs. component.Block (record { opening = placeless b.opening; items = cs; close = 0 })) (all-short_erased b.items each)
+    ∙ sym (ap erased (shortened-Block b) ∙ erased-Block made))
+
+-- and what is parted of them
+
+takes-erased : (c : Component) → takes_last (erased c) ≡ takes_last c
+takes-erased =
+    by_components (λ c. takes_last (erased c) ≡ takes_last c)
+    (λ p. ap takes_last (erased-Single p) ∙ takes_last-Single (placeless p) ∙ sym (takes_last-Single p))
+    (λ b each. ap takes_last (erased-Block b) ∙ takes_last-Block (erased_block b) ∙ sym (takes_last-Block b))
+
+behind-erased : (takes : Bool) (cs : List Component) → behind_taking head_kind parting takes (map erased cs) ≡ map erased (behind_taking head_kind parting takes cs)
+behind-erased false cs = refl
+behind-erased true [] = refl
+behind-erased true (c ∷ cs) =
+    ap (λ k. cond (is_white k) (parting ∷ erased c ∷ map erased cs) (erased c ∷ map erased cs)) (kind-erased c) ∙ at (is_white (head_kind c))
+  where
+    at : (b : Bool) → cond b (parting ∷ erased c ∷ map erased cs) (erased c ∷ map erased cs) ≡ map erased (cond b (parting ∷ c ∷ cs) (c ∷ cs))
+    at true = ap (λ d. d ∷ erased c ∷ map erased cs) (sym (erased-Single (piece_of (record { kind = Comment; text = codes "/**/" }))))
+    at false = refl
+
+parted-erased : (cs : List Component) → parted head_kind parting takes_last (map erased cs) ≡ map erased (parted head_kind parting takes_last cs)
+parted-erased [] = refl
+parted-erased (c ∷ cs) =
+    ap (λ rest. erased c ∷ behind_taking head_kind parting (takes_last (erased c)) rest) (parted-erased cs)
+    ∙ ap (λ b. erased c ∷ behind_taking head_kind parting b (map erased (parted head_kind parting takes_last cs))) (takes-erased c)
+    ∙ ap (λ rest. erased c ∷ rest) (behind-erased (takes_last c) (parted head_kind parting takes_last cs))
+
+abbrev PartErased : Component → Type 0
+PartErased c = parted_within (erased c) ≡ erased (parted_within c)
+
+part-each : (cs : List Component) → Each PartErased cs → map parted_within (map erased cs) ≡ map erased (map parted_within cs)
+part-each [] each = refl
+part-each (c ∷ cs) each = ap (λ d. d ∷ map parted_within (map erased cs)) each.0 ∙ ap (λ ds. erased (parted_within c) ∷ ds) (part-each cs each.1)
+
+all-part_erased : (cs : List Component) → Each PartErased cs → all_parted (map erased cs) ≡ map erased (all_parted cs)
+all-part_erased cs each = ap (parted head_kind parting takes_last) (part-each cs each) ∙ parted-erased (map parted_within cs)
+
+part-erased : (c : Component) → PartErased c
+part-erased =
+    by_components PartErased
+    (λ p. ap parted_within (erased-Single p) ∙ parted_within-Single (placeless p) ∙ sym (ap erased (parted_within-Single p) ∙ erased-Single p))
+    (λ b each.
+    let made : block.Block = record { opening = b.opening; items = all_parted b.items; close = b.close } in
+    ap parted_within (erased-Block b) ∙ parted_within-Block (erased_block b)
+    ∙ ap (λ cs. component.Block (record { opening = placeless b.opening; items = cs; close = 0 })) (all-part_erased b.items each)
+    ∙ sym (ap erased (parted_within-Block b) ∙ erased-Block made))
 
 abbrev ErasedTwice : Component → Type 0
 ErasedTwice c = erased (erased c) ≡ erased c
@@ -204,7 +250,8 @@ erased-twice =
 -- a value is the same where the places of its tokens are at 0
 pub bare_value-erased : (v : List Component) → bare_value (map erased v) ≡ bare_value v
 bare_value-erased v =
-    ap (λ cs. map erased (before_gap head_kind (after_gap head_kind cs))) (all-erased_again v (every AgainErased again-erased v))
-    ∙ ap (λ cs. map erased (before_gap head_kind cs)) (after_gap-map head_kind erased kind-erased (all_again v))
-    ∙ ap (map erased) (before_gap-map head_kind erased kind-erased (after_gap head_kind (all_again v)))
+    ap (λ cs. map erased (all_parted (before_gap head_kind (after_gap head_kind cs)))) (all-short_erased v (every ShortErased short-erased v))
+    ∙ ap (λ cs. map erased (all_parted (before_gap head_kind cs))) (after_gap-map head_kind erased kind-erased (all_shortened v))
+    ∙ ap (λ cs. map erased (all_parted cs)) (before_gap-map head_kind erased kind-erased (after_gap head_kind (all_shortened v)))
+    ∙ ap (map erased) (all-part_erased (value_shortened v) (every PartErased part-erased (value_shortened v)))
     ∙ twice-each (value_again v) (every ErasedTwice erased-twice (value_again v))

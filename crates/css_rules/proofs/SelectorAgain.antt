@@ -1,6 +1,6 @@
 -- What is written is read again.
 use Rattle.std.proofs.Common.{◌≡◌, ℕ, List, [], ◌∷◌, ◌++◌, map, Bool, true, false, not, ◌&&◌, ◌||◌, refl, sym, ap, ◌∙◌, append_assoc}
-use Rattle.std.specs.Prelude.{Option, Some, None, is_some, is_none, flat_map, if◌then◌else◌}
+use Rattle.std.specs.Prelude.{Option, Some, None, is_some, is_none, flat_map, codes, if◌then◌else◌}
 use Rattle.std.specs.List.{filter_map, cons_option, list_all}
 use Rattle.std.proofs.lemmas.Bool.{false≢true}
 use Rattle.std.proofs.lemmas.List.{map-append, append-nil}
@@ -19,7 +19,10 @@ use Rattle.css_rules.specs.declared.selector.Compound.{Compound}
 use Rattle.css_rules.specs.declared.selector.sign.Sign.{Sign}
 use Rattle.css_rules.specs.declared.selector.sign.Sign.TheVariants.{White, Child, Next, Later, Name, Star, Dot, Id, Parent, Other}
 use Rattle.css_tokens.specs.NameText.{name_text}
-use Rattle.css_tokens.specs.PlainNames.{is_plain_name}
+use Rattle.css_tokens.specs.declared.kind.Kind.TheVariants as kinds
+use Rattle.css_tokens.specs.Names.{is_name, name_of_word}
+use Rattle.css_rules.specs.Signs.{starts_ident}
+use Rattle.css_rules.proofs.NameStarts.{text-starts}
 use Rattle.css_rules.specs.Selectors.{parts_of, compound_with, compound_of, stripped, white_before, spaced, clean_signs, Runs, cut_by, run_before, runs_of, links_of, selector_of_runs, list_faults}
 use Rattle.css_rules.specs.BareSelectors.{BareCompound, BareSelector, bare_list}
 use Rattle.css_rules.specs.ReadableSelectors.{is_readable_type, is_readable_simple, has_type, has_simples, is_readable_compound, is_readable_selector, is_readable_list}
@@ -27,6 +30,11 @@ use Rattle.css_rules.specs.SelectorTexts.{compound_text, ends_in_dashes}
 use Rattle.css_rules.specs.SelectorWords.{type_words, simple_words, compound_words, combinator_words, links_words, lead_words, selector_words, more_words, list_words, list_again}
 use Rattle.css_rules.proofs.SelectorPlaces.{is_plain, word_sign, word_cut, word_members, reading_of, is_read, simples_read, compound_read, links_read, selector_read, with_read_part, with_read_link, bare_with, bare_of_type, read-part, read-kind, read-link, read-selector, list-words, faults-words}
 use Rattle.css_rules.proofs.SelectorSpelling.{words-again, is_inner, inner-selector, plain-list, and-left, and-right}
+
+-- what the token crate ensures of the texts of names
+pub record TextNames : Type 0 where
+  pub ident : (n : List ℕ) → is_name n ≡ true → name_of_word kinds.Ident (name_text n) ≡ n
+  pub hash : (n : List ℕ) → is_name n ≡ true → name_of_word kinds.Hash (codes "#" ++ name_text n) ≡ n
 
 -- The signs of a selector.
 
@@ -56,20 +64,20 @@ abbrev clean_links : List (Combinator × BareCompound) → List Sign
 clean_links [] = []
 clean_links (l ∷ ls) = combinator_sign l.0 ∷ (compound_signs l.1 ++ clean_links ls)
 
--- A readable name is its own text.
-module _ (named : (n : List ℕ) → is_plain_name n ≡ true → name_text n ≡ n) where
+-- The text of a name means the name.
+module _ (named : TextNames) where
   signs-type : (kind : TypeName) → is_readable_type kind ≡ true → map word_sign (type_words kind) ≡ type_signs kind
   signs-type types.None h = refl
   signs-type types.Universal h = refl
-  signs-type (types.Name n) h = ap (λ (t : List ℕ). Name t ∷ []) (named n h)
+  signs-type (types.Name n) h = ap (λ (t : List ℕ). Name t ∷ []) (named.ident n h)
 
   signs-id : (n : List ℕ) (b : Bool) → b ≡ true → ((if b then Id n 0 else Other) ∷ []) ≡ Id n 0 ∷ []
   signs-id n true e = refl
   signs-id n false e = absurd (false≢true e)
 
   signs-simple : (s : Simple) → is_readable_simple s ≡ true → map word_sign (simple_words s) ≡ simple_signs s
-  signs-simple (simples.Class n) h = ap (λ (t : List ℕ). Dot 0 ∷ Name t ∷ []) (named n h)
-  signs-simple (simples.Id n) h = ap (λ (t : List ℕ). (if is_plain_name t then Id t 0 else Other) ∷ []) (named n h) ∙ signs-id n (is_plain_name n) h
+  signs-simple (simples.Class n) h = ap (λ (t : List ℕ). Dot 0 ∷ Name t ∷ []) (named.ident n h)
+  signs-simple (simples.Id n) h = ap (λ (t : List ℕ). (if starts_ident (name_text n) then Id t 0 else Other) ∷ []) (named.hash n h) ∙ signs-id n (starts_ident (name_text n)) (text-starts n h)
   signs-simple simples.Parent h = refl
 
   signs-simples : (ss : List Simple) → list_all is_readable_simple ss ≡ true → map word_sign (flat_map simple_words ss) ≡ part_signs ss

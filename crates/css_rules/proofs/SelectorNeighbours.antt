@@ -16,7 +16,7 @@ use Rattle.std.proofs.Common.{◌≤◌, ◌-◌, suc, length, drop, arith}
 use Rattle.std.specs.Prelude.{nat_eq}
 use lib.Pointwise.{pointwise}
 use Rattle.css_tokens.specs.NameText.{name_text}
-use Rattle.css_tokens.specs.PlainNames.{is_plain_name}
+use Rattle.css_tokens.specs.Names.{is_name}
 use Rattle.css_rules.specs.BareSelectors.{BareCompound, BareSelector}
 use Rattle.css_rules.specs.ReadableSelectors.{is_readable_type, is_readable_simple, has_type, has_simples, is_readable_compound, is_readable_selector, is_readable_list}
 use Rattle.css_rules.specs.SelectorTexts.{simple_text, type_text, compound_text, ends_in_dashes}
@@ -361,11 +361,11 @@ all-append xs ys h k = list_all-append is_spelled_atom xs ys ∙ ap (λ (b : Boo
 spelled-type : (kind : TypeName) → is_readable_type kind ≡ true → list_all is_spelled_atom (type_atoms kind) ≡ true
 spelled-type types.None h = refl
 spelled-type types.Universal h = refl
-spelled-type (types.Name n) h = and-both (is_plain_name n) true h refl
+spelled-type (types.Name n) h = and-both (is_name n) true h refl
 
 spelled-simple : (s : Simple) → is_readable_simple s ≡ true → list_all is_spelled_atom (simple_atoms s) ≡ true
-spelled-simple (simples.Class n) h = and-both (is_plain_name n) true h refl
-spelled-simple (simples.Id n) h = and-both (is_plain_name n) true h refl
+spelled-simple (simples.Class n) h = and-both (is_name n) true h refl
+spelled-simple (simples.Id n) h = and-both (is_name n) true h refl
 spelled-simple simples.Parent h = refl
 
 spelled-simples : (ss : List Simple) → list_all is_readable_simple ss ≡ true → list_all is_spelled_atom (part_atoms ss) ≡ true

@@ -26,8 +26,8 @@ use Rattle.css_rules.specs.declared.selector.Link.{Link}
 use Rattle.css_rules.specs.declared.selector.Selector.{Selector}
 use Rattle.css_rules.specs.declared.selector.sign.Sign.{Sign}
 use Rattle.css_rules.specs.declared.selector.sign.Sign.TheVariants.{Comment, White, Child, Next, Later, Name, Star, Dot, Id, Parent, Other}
-use Rattle.css_tokens.specs.PlainNames.{is_plain_name}
-use Rattle.css_rules.specs.Signs.{kind_sign, sign_of, open_sign}
+use Rattle.css_tokens.specs.Names.{name_of_word}
+use Rattle.css_rules.specs.Signs.{kind_sign, sign_of, open_sign, is_id}
 use Rattle.css_rules.specs.Selectors.{with_part, parts_of, compound_with, compound_of, stripped, white_before, sign_before, spaced, clean_signs, Runs, run_before, runs_of, with_link, links_of, selector_with, selector_of_runs, selector_at, first_place, selector_of, Member, empty_before, with_component, cut_at_commas, members_of, fault_of, list_faults}
 use Rattle.css_rules.specs.BareSelectors.{BareCompound, BareSelector, bare_compound, bare_link, bare_selector, bare_list}
 
@@ -248,7 +248,7 @@ delim-unplaced false false false false false true at = refl
 delim-unplaced false false false false false false at = refl
 
 pub sign-unplaced : (k : Kind) (text : List ℕ) (at : ℕ) → unplaced (kind_sign k text at) ≡ kind_sign k text 0
-sign-unplaced kinds.Hash text at = id-unplaced (is_plain_name (drop 1 text)) (drop 1 text) at
+sign-unplaced kinds.Hash text at = id-unplaced (is_id text) (name_of_word kinds.Hash text) at
 sign-unplaced kinds.Delim text at = delim-unplaced (is_text text (codes ">")) (is_text text (codes "+")) (is_text text (codes "~")) (is_text text (codes "*")) (is_text text (codes ".")) (is_text text (codes "&")) at
 sign-unplaced kinds.White text at = refl
 sign-unplaced kinds.Comment text at = refl

@@ -1,5 +1,5 @@
 -- What a list without faults is read as has a spelling.
-use Rattle.std.proofs.Common.{◌≡◌, ℕ, List, [], ◌∷◌, ◌++◌, map, Bool, true, false, ◌&&◌, ◌||◌, refl, sym, ap, ◌∙◌}
+use Rattle.std.proofs.Common.{◌≡◌, ℕ, List, [], ◌∷◌, ◌++◌, map, Bool, true, false, ◌&&◌, ◌||◌, refl, sym, ap, ◌∙◌, not}
 use Rattle.std.specs.Prelude.{codes, Option, Some, None, is_some, if◌then◌else◌}
 use Rattle.std.specs.List.{filter_map, cons_option, list_all}
 use Rattle.std.proofs.lemmas.Bool.{false≢true}
@@ -23,19 +23,19 @@ use Rattle.css_rules.specs.declared.selector.Part.{Part}
 use Rattle.css_rules.specs.declared.selector.Selector.{Selector}
 use Rattle.css_rules.specs.declared.selector.sign.Sign.{Sign}
 use Rattle.css_rules.specs.declared.selector.sign.Sign.TheVariants.{Comment, White, Child, Next, Later, Name, Star, Dot, Id, Parent, Other}
-use Rattle.css_tokens.specs.PlainNames.{is_plain_name}
-use Rattle.css_rules.specs.Signs.{kind_sign, sign_of, open_sign}
+use Rattle.css_tokens.specs.Names.{is_name, name_of_word}
+use Rattle.css_rules.specs.Signs.{kind_sign, sign_of, open_sign, is_id}
 use Rattle.css_rules.specs.Selectors.{with_part, parts_of, compound_with, compound_of, stripped, white_before, sign_before, spaced, clean_signs, Runs, run_before, runs_of, links_of, selector_at, first_place, selector_of, Member, empty_before, with_component, cut_at_commas, members_of, fault_of, list_faults}
 use Rattle.css_rules.specs.BareSelectors.{BareCompound, BareSelector, bare_list}
-use Rattle.css_rules.specs.ReadableSelectors.{is_readable_type, is_readable_simple, has_type, has_simples, is_readable_compound, is_readable_selector, has_selectors, is_readable_list, is_spelled, is_spelled_kind}
+use Rattle.css_rules.specs.ReadableSelectors.{is_readable_type, is_readable_simple, has_type, has_simples, is_readable_compound, is_readable_selector, has_selectors, is_readable_list, is_spelled, is_named, is_clean}
 use Rattle.css_rules.proofs.SelectorPlaces.{single-piece, simples_read, compound_read, links_read, selector_read, with_read_part, with_read_link, bare_with, bare_of_type, read-part, read-kind, read-link, read-selector}
 use Rattle.css_rules.proofs.SelectorSpelling.{and-left, and-right, and-both}
 
 -- Signs whose names spell Idents.
 
 abbrev good : Sign → Bool
-good (Name n) = is_plain_name n
-good (Id n a) = is_plain_name n
+good (Name n) = is_name n
+good (Id n a) = is_name n
 good White = true
 good Comment = true
 good Child = true
@@ -46,8 +46,8 @@ good (Dot a) = true
 good (Parent a) = true
 good Other = true
 
-good-id : (n : List ℕ) (at : ℕ) (b : Bool) → b ≡ is_plain_name n → good (if b then Id n at else Other) ≡ true
-good-id n at true e = sym e
+good-id : (n : List ℕ) (at : ℕ) (b : Bool) → (not b || is_name n) ≡ true → good (if b then Id n at else Other) ≡ true
+good-id n at true e = e
 good-id n at false e = refl
 
 good-delim : (a b c d e f : Bool) (at : ℕ) → good (if a then Child else (if b then Next else (if c then Later else (if d then Star else (if e then Dot at else (if f then Parent at else Other)))))) ≡ true
@@ -59,9 +59,9 @@ good-delim false false false false true f at = refl
 good-delim false false false false false true at = refl
 good-delim false false false false false false at = refl
 
-good-kind : (k : Kind) (text : List ℕ) (at : ℕ) → is_spelled_kind k text ≡ true → good (kind_sign k text at) ≡ true
+good-kind : (k : Kind) (text : List ℕ) (at : ℕ) → is_named k text ≡ true → good (kind_sign k text at) ≡ true
 good-kind kinds.Ident text at h = h
-good-kind kinds.Hash text at h = good-id (drop 1 text) at (is_plain_name (drop 1 text)) refl
+good-kind kinds.Hash text at h = good-id (name_of_word kinds.Hash text) at (is_id text) h
 good-kind kinds.Delim text at h = good-delim (is_text text (codes ">")) (is_text text (codes "+")) (is_text text (codes "~")) (is_text text (codes "*")) (is_text text (codes ".")) (is_text text (codes "&")) at
 good-kind kinds.White text at h = refl
 good-kind kinds.Comment text at h = refl
@@ -87,8 +87,8 @@ good-open : (c : Component) (rest : List Piece) (v : Component-F Component block
 good-open c rest (Block b) e h = refl
 good-open c rest (Single p) e h =
     good-kind p.kind p.text p.at
-    (and-left (is_spelled (word_of p)) (list_all is_spelled (map word_of rest))
-    (ap (λ (ps : List Piece). list_all is_spelled (map word_of (ps ++ rest))) (sym (single-piece c p e)) ∙ h))
+    (and-right (is_clean p.text) (is_named p.kind p.text) (and-left (is_spelled (word_of p)) (list_all is_spelled (map word_of rest))
+    (ap (λ (ps : List Piece). list_all is_spelled (map word_of (ps ++ rest))) (sym (single-piece c p e)) ∙ h)))
 
 rest-spelled : (front rest : List Piece) → list_all is_spelled (map word_of (front ++ rest)) ≡ true → list_all is_spelled (map word_of rest) ≡ true
 rest-spelled [] rest h = h
@@ -162,10 +162,10 @@ good-before White ws g h = good-white ws h
 good-before Child ws g h = good-stripped ws h
 good-before Next ws g h = good-stripped ws h
 good-before Later ws g h = good-stripped ws h
-good-before (Name n) ws g h = and-both (is_plain_name n) (list_all good ws) g h
+good-before (Name n) ws g h = and-both (is_name n) (list_all good ws) g h
 good-before Star ws g h = h
 good-before (Dot a) ws g h = h
-good-before (Id n a) ws g h = and-both (is_plain_name n) (list_all good ws) g h
+good-before (Id n a) ws g h = and-both (is_name n) (list_all good ws) g h
 good-before (Parent a) ws g h = h
 good-before Other ws g h = h
 
@@ -185,10 +185,10 @@ good-run Comment runs g h = h
 good-run Child runs g h = h
 good-run Next runs g h = h
 good-run Later runs g h = h
-good-run (Name n) runs g h = and-assoc (is_plain_name n) (list_all good runs.first) (list_all good_run runs.rest) (and-both (is_plain_name n) (good_runs runs) g h)
+good-run (Name n) runs g h = and-assoc (is_name n) (list_all good runs.first) (list_all good_run runs.rest) (and-both (is_name n) (good_runs runs) g h)
 good-run Star runs g h = h
 good-run (Dot a) runs g h = h
-good-run (Id n a) runs g h = and-assoc (is_plain_name n) (list_all good runs.first) (list_all good_run runs.rest) (and-both (is_plain_name n) (good_runs runs) g h)
+good-run (Id n a) runs g h = and-assoc (is_name n) (list_all good runs.first) (list_all good_run runs.rest) (and-both (is_name n) (good_runs runs) g h)
 good-run (Parent a) runs g h = h
 good-run Other runs g h = h
 
@@ -214,8 +214,8 @@ part-test s at o g h = ap (λ (x : Option (List Simple)). simples_test x) (read-
 
 test-parts : (ws : List Sign) → list_all good ws ≡ true → simples_test (simples_read (parts_of ws)) ≡ true
 test-parts [] h = refl
-test-parts (Dot a ∷ Name n ∷ ws) h = part-test (simples.Class n) a (parts_of ws) (and-left (is_plain_name n) (list_all good ws) h) (test-parts ws (and-right (is_plain_name n) (list_all good ws) h))
-test-parts (Id n a ∷ ws) h = part-test (simples.Id n) a (parts_of ws) (and-left (is_plain_name n) (list_all good ws) h) (test-parts ws (and-right (is_plain_name n) (list_all good ws) h))
+test-parts (Dot a ∷ Name n ∷ ws) h = part-test (simples.Class n) a (parts_of ws) (and-left (is_name n) (list_all good ws) h) (test-parts ws (and-right (is_name n) (list_all good ws) h))
+test-parts (Id n a ∷ ws) h = part-test (simples.Id n) a (parts_of ws) (and-left (is_name n) (list_all good ws) h) (test-parts ws (and-right (is_name n) (list_all good ws) h))
 test-parts (Parent a ∷ ws) h = part-test simples.Parent a (parts_of ws) refl (test-parts ws h)
 test-parts (Dot a ∷ []) h = refl
 test-parts (Dot a ∷ White ∷ ws) h = refl
@@ -287,7 +287,7 @@ untyped-test w ws h = ap (λ (o : Option BareCompound). compound_test o) (read-k
 
 test-compound : (ws : List Sign) → list_all good ws ≡ true → compound_test (compound_read (compound_of ws)) ≡ true
 test-compound [] h = refl
-test-compound (Name n ∷ ws) h = typed-test (types.Name n) ws refl (and-left (is_plain_name n) (list_all good ws) h) (and-right (is_plain_name n) (list_all good ws) h)
+test-compound (Name n ∷ ws) h = typed-test (types.Name n) ws refl (and-left (is_name n) (list_all good ws) h) (and-right (is_name n) (list_all good ws) h)
 test-compound (Star ∷ ws) h = typed-test types.Universal ws refl refl h
 test-compound (White ∷ ws) h = untyped-test White ws h
 test-compound (Comment ∷ ws) h = untyped-test Comment ws h

@@ -4,10 +4,10 @@ use Rattle.std.proofs.Math.Seq.{drop-append_seam}
 use Rattle.std.specs.List.{list_all, AllByRecursion}
 use Rattle.std.proofs.lemmas.Bool.{false≢true}
 use Rattle.css_tokens.specs.declared.kind.Kind.TheVariants as kinds
-use Rattle.css_tokens.specs.Again.{StaysFirst, word_from, marks, begins_none, after_ident, after_name, digit, digit_or_dot}
+use Rattle.css_tokens.specs.Again.{StaysFirst, word_from, marks, begins_none, after_ident, after_name, more_name, digit, digit_or_dot}
 use Rattle.css_tokens.specs.Characters as characters
 use Rattle.css_tokens.specs.Piece.{Word, spelled}
-use Rattle.css_tokens.specs.PlainNames.{is_plain_name}
+use Rattle.css_tokens.specs.Names.{is_name}
 use Rattle.css_tokens.specs.Tokens.{First, ReadsTo, is_refused, spells}
 use Rattle.css_tokens.specs.Trees.{words_all}
 use Rattle.css_rules.specs.BareSelectors.{BareSelector}
@@ -26,15 +26,12 @@ pub record Stays : Type 0 where
   pub added : (rest : List ℕ) → begins_none digit_or_dot rest ≡ true → StaysFirst (word_from kinds.Delim (codes "+")) rest
   pub added_dot : (rest : List ℕ) → begins_none digit rest ≡ true → StaysFirst (word_from kinds.Delim (codes "+")) (codes "." ++ rest)
   pub spaced : (rest : List ℕ) → begins_none characters.white rest ≡ true → StaysFirst (word_from kinds.White (codes " ")) rest
-  pub ident : (u rest : List ℕ) → spells kinds.Ident u ≡ true → begins_none after_ident rest ≡ true → StaysFirst (word_from kinds.Ident u) rest
-  pub hashed : (u rest : List ℕ) → spells kinds.Hash u ≡ true → begins_none characters.name rest ≡ true → StaysFirst (word_from kinds.Hash u) rest
-  pub idents : (n : List ℕ) → is_plain_name n ≡ true → spells kinds.Ident n ≡ true
-  pub hashes : (n : List ℕ) → is_plain_name n ≡ true → spells kinds.Hash (codes "#" ++ n) ≡ true
-  pub no_digit : (n rest : List ℕ) → is_plain_name n ≡ true → begins_none digit (n ++ rest) ≡ true
-  pub no_dot : (n rest : List ℕ) → is_plain_name n ≡ true → begins_none digit_or_dot (n ++ rest) ≡ true
-  pub no_white : (n rest : List ℕ) → is_plain_name n ≡ true → begins_none characters.white (n ++ rest) ≡ true
-  pub child : (n rest : List ℕ) → is_plain_name n ≡ true → (n ≡ codes "--" → ⊥) → begins_none after_name rest ≡ true → StaysFirst (word_from kinds.Ident n) rest
-  pub named : (n : List ℕ) → is_plain_name n ≡ true → name_text n ≡ n
+  pub ident : (n rest : List ℕ) → is_name n ≡ true → begins_none after_ident rest ≡ true → StaysFirst (word_from kinds.Ident (name_text n)) rest
+  pub child : (n rest : List ℕ) → is_name n ≡ true → (name_text n ≡ codes "--" → ⊥) → begins_none after_name rest ≡ true → StaysFirst (word_from kinds.Ident (name_text n)) rest
+  pub hashed : (n rest : List ℕ) → is_name n ≡ true → begins_none more_name rest ≡ true → StaysFirst (word_from kinds.Hash (codes "#" ++ name_text n)) rest
+  pub no_digit : (n rest : List ℕ) → is_name n ≡ true → begins_none digit (name_text n ++ rest) ≡ true
+  pub no_dot : (n rest : List ℕ) → is_name n ≡ true → begins_none digit_or_dot (name_text n ++ rest) ≡ true
+  pub no_white : (n rest : List ℕ) → is_name n ≡ true → begins_none characters.white (name_text n ++ rest) ≡ true
 
 -- the text of atoms before a block
 abbrev before_block : List Atom → List ℕ → List ℕ
@@ -42,30 +39,28 @@ before_block us rest = spelled (map atom_word us) ++ (codes "{" ++ rest)
 
 module _ (l : Stays) where
   -- a name and what follows it
-  name_first : (m : List ℕ) (us : List Atom) (rest : List ℕ) → is_plain_name m ≡ true → before_block (name m ∷ us) rest ≡ m ++ before_block us rest
-  name_first m us rest h = append_assoc (name_text m) (spelled (map atom_word us)) (codes "{" ++ rest) ∙ ap (λ (n : List ℕ). n ++ before_block us rest) (l.named m h)
+  name_first : (m : List ℕ) (us : List Atom) (rest : List ℕ) → before_block (name m ∷ us) rest ≡ name_text m ++ before_block us rest
+  name_first m us rest = append_assoc (name_text m) (spelled (map atom_word us)) (codes "{" ++ rest)
 
-  name_digit : (m : List ℕ) (us : List Atom) (rest : List ℕ) → is_plain_name m ≡ true → begins_none digit (before_block (name m ∷ us) rest) ≡ true
-  name_digit m us rest h = ap (begins_none digit) (name_first m us rest h) ∙ l.no_digit m (before_block us rest) h
+  name_digit : (m : List ℕ) (us : List Atom) (rest : List ℕ) → is_name m ≡ true → begins_none digit (before_block (name m ∷ us) rest) ≡ true
+  name_digit m us rest h = ap (begins_none digit) (name_first m us rest) ∙ l.no_digit m (before_block us rest) h
 
-  name_dot : (m : List ℕ) (us : List Atom) (rest : List ℕ) → is_plain_name m ≡ true → begins_none digit_or_dot (before_block (name m ∷ us) rest) ≡ true
-  name_dot m us rest h = ap (begins_none digit_or_dot) (name_first m us rest h) ∙ l.no_dot m (before_block us rest) h
+  name_dot : (m : List ℕ) (us : List Atom) (rest : List ℕ) → is_name m ≡ true → begins_none digit_or_dot (before_block (name m ∷ us) rest) ≡ true
+  name_dot m us rest h = ap (begins_none digit_or_dot) (name_first m us rest) ∙ l.no_dot m (before_block us rest) h
 
-  name_white : (m : List ℕ) (us : List Atom) (rest : List ℕ) → is_plain_name m ≡ true → begins_none characters.white (before_block (name m ∷ us) rest) ≡ true
-  name_white m us rest h = ap (begins_none characters.white) (name_first m us rest h) ∙ l.no_white m (before_block us rest) h
+  name_white : (m : List ℕ) (us : List Atom) (rest : List ℕ) → is_name m ≡ true → begins_none characters.white (before_block (name m ∷ us) rest) ≡ true
+  name_white m us rest h = ap (begins_none characters.white) (name_first m us rest) ∙ l.no_white m (before_block us rest) h
 
-  ident_before : (n rest : List ℕ) → is_plain_name n ≡ true → begins_none after_ident rest ≡ true → StaysFirst (atom_word (name n)) rest
-  ident_before n rest h e = subst (λ (t : List ℕ). StaysFirst (word_from kinds.Ident t) rest) (sym (l.named n h)) (l.ident n rest (l.idents n h) e)
+  ident_before : (n rest : List ℕ) → is_name n ≡ true → begins_none after_ident rest ≡ true → StaysFirst (atom_word (name n)) rest
+  ident_before n rest h e = l.ident n rest h e
 
-  child_before : (n rest : List ℕ) → is_plain_name n ≡ true → not (ends_in_dashes (name_text n)) ≡ true → begins_none after_name rest ≡ true → StaysFirst (atom_word (name n)) rest
-  child_before n rest h d e =
-      subst (λ (t : List ℕ). StaysFirst (word_from kinds.Ident t) rest) (sym (l.named n h))
-      (l.child n rest h (λ f. false≢true (sym (ap (λ (t : List ℕ). not (ends_in_dashes t)) (l.named n h ∙ f)) ∙ d)) e)
+  child_before : (n rest : List ℕ) → is_name n ≡ true → not (ends_in_dashes (name_text n)) ≡ true → begins_none after_name rest ≡ true → StaysFirst (atom_word (name n)) rest
+  child_before n rest h d e = l.child n rest h (λ f. false≢true (sym (ap (λ (t : List ℕ). not (ends_in_dashes t)) f) ∙ d)) e
 
-  hash_before : (n rest : List ℕ) → is_plain_name n ≡ true → begins_none characters.name rest ≡ true → StaysFirst (atom_word (hash n)) rest
-  hash_before n rest h e = subst (λ (t : List ℕ). StaysFirst (word_from kinds.Hash (codes "#" ++ t)) rest) (sym (l.named n h)) (l.hashed (codes "#" ++ n) rest (l.hashes n h) e)
+  hash_before : (n rest : List ℕ) → is_name n ≡ true → begins_none more_name rest ≡ true → StaysFirst (atom_word (hash n)) rest
+  hash_before n rest h e = l.hashed n rest h e
 
-  name_stays : (n : List ℕ) (us : List Atom) (rest : List ℕ) → is_plain_name n ≡ true → are_neighbours (name n ∷ us) ≡ true → StaysFirst (atom_word (name n)) (before_block us rest)
+  name_stays : (n : List ℕ) (us : List Atom) (rest : List ℕ) → is_name n ≡ true → are_neighbours (name n ∷ us) ≡ true → StaysFirst (atom_word (name n)) (before_block us rest)
   name_stays n [] rest h e = ident_before n (before_block [] rest) h refl
   name_stays n (hash m ∷ us) rest h e = ident_before n (before_block (hash m ∷ us) rest) h refl
   name_stays n (dot ∷ us) rest h e = ident_before n (before_block (dot ∷ us) rest) h refl
@@ -78,7 +73,7 @@ module _ (l : Stays) where
   name_stays n (name m ∷ us) rest h e = absurd (false≢true e)
   name_stays n (star ∷ us) rest h e = absurd (false≢true e)
 
-  hash_stays : (n : List ℕ) (us : List Atom) (rest : List ℕ) → is_plain_name n ≡ true → are_neighbours (hash n ∷ us) ≡ true → StaysFirst (atom_word (hash n)) (before_block us rest)
+  hash_stays : (n : List ℕ) (us : List Atom) (rest : List ℕ) → is_name n ≡ true → are_neighbours (hash n ∷ us) ≡ true → StaysFirst (atom_word (hash n)) (before_block us rest)
   hash_stays n [] rest h e = hash_before n (before_block [] rest) h refl
   hash_stays n (hash m ∷ us) rest h e = hash_before n (before_block (hash m ∷ us) rest) h refl
   hash_stays n (dot ∷ us) rest h e = hash_before n (before_block (dot ∷ us) rest) h refl
@@ -93,7 +88,7 @@ module _ (l : Stays) where
 
   -- a name stands behind a `.`
   dot_digit : (us : List Atom) (rest : List ℕ) → list_all is_spelled_atom us ≡ true → are_neighbours (dot ∷ us) ≡ true → begins_none digit (before_block us rest) ≡ true
-  dot_digit (name m ∷ us) rest k e = name_digit m us rest (and-left (is_plain_name m) (list_all is_spelled_atom us) k)
+  dot_digit (name m ∷ us) rest k e = name_digit m us rest (and-left (is_name m) (list_all is_spelled_atom us) k)
   dot_digit [] rest k e = absurd (false≢true e)
   dot_digit (hash m ∷ us) rest k e = absurd (false≢true e)
   dot_digit (dot ∷ us) rest k e = absurd (false≢true e)
@@ -106,7 +101,7 @@ module _ (l : Stays) where
   dot_digit (comma ∷ us) rest k e = absurd (false≢true e)
 
   space_stays : (us : List Atom) (rest : List ℕ) → list_all is_spelled_atom us ≡ true → are_neighbours (space ∷ us) ≡ true → StaysFirst (atom_word space) (before_block us rest)
-  space_stays (name m ∷ us) rest k e = l.spaced (before_block (name m ∷ us) rest) (name_white m us rest (and-left (is_plain_name m) (list_all is_spelled_atom us) k))
+  space_stays (name m ∷ us) rest k e = l.spaced (before_block (name m ∷ us) rest) (name_white m us rest (and-left (is_name m) (list_all is_spelled_atom us) k))
   space_stays (hash m ∷ us) rest k e = l.spaced (before_block (hash m ∷ us) rest) refl
   space_stays (dot ∷ us) rest k e = l.spaced (before_block (dot ∷ us) rest) refl
   space_stays (star ∷ us) rest k e = l.spaced (before_block (star ∷ us) rest) refl
@@ -119,7 +114,7 @@ module _ (l : Stays) where
   space_stays (comma ∷ us) rest k e = absurd (false≢true e)
 
   plus_stays : (us : List Atom) (rest : List ℕ) → list_all is_spelled_atom us ≡ true → are_neighbours (plus ∷ us) ≡ true → StaysFirst (atom_word plus) (before_block us rest)
-  plus_stays (name m ∷ us) rest k e = l.added (before_block (name m ∷ us) rest) (name_dot m us rest (and-left (is_plain_name m) (list_all is_spelled_atom us) k))
+  plus_stays (name m ∷ us) rest k e = l.added (before_block (name m ∷ us) rest) (name_dot m us rest (and-left (is_name m) (list_all is_spelled_atom us) k))
   plus_stays (hash m ∷ us) rest k e = l.added (before_block (hash m ∷ us) rest) refl
   plus_stays (dot ∷ us) rest k e = l.added_dot (before_block us rest) (dot_digit us rest k e)
   plus_stays (star ∷ us) rest k e = l.added (before_block (star ∷ us) rest) refl

@@ -1,15 +1,16 @@
 -- The text of a printed sheet reads as the words of its components.
-use Rattle.std.proofs.Common.{◌≡◌, ℕ, List, [], ◌∷◌, ◌++◌, flat_map, Bool, true, false, ◌&&◌, not, refl, sym, ◌∙◌, ap, subst, IsTrue, codes, length, drop, Option, Some, None, is_none}
+use Rattle.std.proofs.Common.{◌≡◌, ℕ, List, [], ◌∷◌, ◌++◌, flat_map, Bool, true, false, ◌&&◌, not, refl, sym, ◌∙◌, ap, subst, IsTrue, codes, length, drop, Option, Some, None, is_none, cond}
 use Rattle.std.specs.List.{list_all, AllByRecursion}
 use Rattle.std.proofs.lemmas.List.{append_assoc, append-nil}
 use Rattle.css_tokens.specs.declared.kind.Kind.TheVariants as kinds
 use Rattle.css_tokens.specs.declared.component.Component.{Component}
 use Rattle.css_tokens.specs.Piece.{Word, spelled}
 use Rattle.css_tokens.specs.NameText.{name_text}
+use Rattle.css_tokens.specs.Names.{is_name}
 use Rattle.css_tokens.specs.PlainNames.{is_plain_name}
 use Rattle.css_tokens.specs.Characters.{white}
 use Rattle.css_tokens.specs.Again.{StaysFirst, is_stop, marks, word_from, begins_none, after_ident}
-use Rattle.css_tokens.specs.Tokens.{ReadsTo, Reads, classes_of, is_refused, spells}
+use Rattle.css_tokens.specs.Tokens.{ReadsTo, Reads, classes_of, is_refused, spells, after_mark, bad_place}
 use Rattle.css_tokens.specs.Trees.{words_all, all_formed}
 use Rattle.css_tokens.specs.Values.{value_text, value_words}
 use Rattle.css_tokens.specs.ValueAgain.{value_again}
@@ -30,6 +31,8 @@ use Rattle.css_rules.specs.SelectorTexts.{list_text, selector_text, compound_tex
 use Rattle.css_rules.specs.SelectorWords.{word, single_of, list_again}
 use Rattle.css_rules.specs.SheetTexts.{innermost, runs_text}
 use Rattle.css_rules.specs.SheetAgain.{colon, semicolon, line_feed, value_or_space, importance_again, declaration_again, declarations_again, block_again, run_again, sheet_again}
+use Rattle.css_rules.proofs.CleanTexts.{clean-bad, sheet-clean, sheet-unmarked}
+use Rattle.css_rules.proofs.NameStarts.{important-name}
 use Rattle.css_rules.proofs.PreludeAgain.{words-cons}
 use Rattle.css_rules.proofs.SelectorSpelling.{and-left, and-right}
 use Rattle.css_rules.proofs.RulesAgain.{made}
@@ -42,11 +45,10 @@ pub record ReadLaws : Type 0 where
   pub marked : AllByRecursion (λ w. (rest : List ℕ) → StaysFirst w rest) marks
   pub spaced : (rest : List ℕ) → begins_none white rest ≡ true → StaysFirst (word_from kinds.White (codes " ")) rest
   pub fed : (rest : List ℕ) → begins_none white rest ≡ true → StaysFirst (word_from kinds.White (10 ∷ [])) rest
-  pub ident : (u rest : List ℕ) → spells kinds.Ident u ≡ true → begins_none after_ident rest ≡ true → StaysFirst (word_from kinds.Ident u) rest
-  pub idents : (n : List ℕ) → is_plain_name n ≡ true → spells kinds.Ident n ≡ true
-  pub no_white : (n rest : List ℕ) → is_plain_name n ≡ true → begins_none white (n ++ rest) ≡ true
-  pub named : (n : List ℕ) → IsTrue (is_plain_name n) → name_text n ≡ n
-  pub printed : (v : List Component) (s r : List ℕ) → IsTrue (all_formed v) → is_stop (classes_of s) ≡ true → is_stop (classes_of r) ≡ true
+  pub ident : (n rest : List ℕ) → is_name n ≡ true → begins_none after_ident rest ≡ true → StaysFirst (word_from kinds.Ident (name_text n)) rest
+  pub no_white : (n rest : List ℕ) → is_name n ≡ true → begins_none white (name_text n ++ rest) ≡ true
+  pub plain : (n : List ℕ) → IsTrue (is_plain_name n) → name_text n ≡ n
+  pub printed : (v : List Component) (s r : List ℕ) → IsTrue (all_formed v) → is_stop (classes_of s) ≡ true → is_stop (classes_of r) ≡ true → begins_none white r ≡ true
       → ReadsTo (spelled (words_all v) ++ s) (words_all v) s → ReadsTo (value_text v ++ r) (value_words v) r
   pub listed : (bs : List BareSelector) (rest : List ℕ) → IsTrue (is_readable_list bs) → ReadsTo (list_text bs ++ (codes "{" ++ rest)) (words_all (list_again bs)) (codes "{" ++ rest)
 
@@ -103,9 +105,12 @@ module _ (laws : ReadLaws) where
   after_declaration true rest = codes ";" ++ rest
   after_declaration false rest = codes "}" ++ rest
 
+  important-before : (rest : List ℕ) → begins_none after_ident rest ≡ true → StaysFirst (word kinds.Ident (codes "important")) rest
+  important-before rest h = subst (λ t. StaysFirst (word_from kinds.Ident t) rest) (laws.plain (codes "important") refl) (laws.ident (codes "important") rest important-name h)
+
   important-reads : (more : Bool) (rest : List ℕ) → StaysFirst (word kinds.Ident (codes "important")) (after_declaration more rest)
-  important-reads true rest = laws.ident (codes "important") (codes ";" ++ rest) (laws.idents (codes "important") refl) refl
-  important-reads false rest = laws.ident (codes "important") (codes "}" ++ rest) (laws.idents (codes "important") refl) refl
+  important-reads true rest = important-before (codes ";" ++ rest) refl
+  important-reads false rest = important-before (codes "}" ++ rest) refl
 
   importance-reads : (b more : Bool) (rest : List ℕ) → ReadsOn (importance_again b) (after_declaration more rest)
   importance-reads true more rest =
@@ -131,7 +136,7 @@ module _ (laws : ReadLaws) where
       let some = printed-some values c cs formed (not_true (is_gap c) begun) in
       let words = values.words (c ∷ cs) formed in
       let P : List Word → Type 0 = λ ws. ReadsTo (spelled ws ++ r) ws r in
-      let again : ReadsOn (value_again (c ∷ cs)) r = subst P (sym words) (laws.printed (c ∷ cs) s r formed stop stop_r reads) in
+      let again : ReadsOn (value_again (c ∷ cs)) r = subst P (sym words) (laws.printed (c ∷ cs) s r formed stop stop_r white_r reads) in
       let Q : List Component → Type 0 = λ v. ReadsOn v r in
       let whole : value_or_space (value_again (c ∷ cs)) ≡ value_again (c ∷ cs) = ap value_or_space some.1.1 ∙ sym some.1.1 in
       subst Q (sym whole) again
@@ -144,9 +149,8 @@ module _ (laws : ReadLaws) where
       let tail = on-append value mark after
       (value-reads values d.value stands.behind (text_of mark ++ after) p.formed p.begun stands.stop stands.reads (stop-follows d.important more rest) (white-follows d.important more rest))
       (importance-reads d.important more rest) in
-      let spelled_name : spells kinds.Ident (name_text d.name) ≡ true = ap (spells kinds.Ident) (laws.named d.name p.name) ∙ laws.idents d.name p.name in
       let before_colon : begins_none after_ident (text_of (colon ∷ value ++ mark) ++ after) ≡ true = ap (λ t. begins_none after_ident (t ++ after)) (text-cons (word kinds.Colon (codes ":")) (value ++ mark)) in
-      on-cons (word kinds.Ident (name_text d.name)) (colon ∷ value ++ mark) after refl (laws.ident (name_text d.name) (text_of (colon ∷ value ++ mark) ++ after) spelled_name before_colon)
+      on-cons (word kinds.Ident (name_text d.name)) (colon ∷ value ++ mark) after refl (laws.ident d.name (text_of (colon ∷ value ++ mark) ++ after) p.name before_colon)
       (on-cons (word kinds.Colon (codes ":")) (value ++ mark) after refl (colon_mark (text_of (value ++ mark) ++ after)) tail)
 
   declarations-read : ValueLaws → (d : Declaration) (ds : List Declaration) → AllByRecursion IsPrintableDeclaration (d ∷ ds) → AllByRecursion Stands (d ∷ ds) → (rest : List ℕ) → ReadsOn (declarations_again (d ∷ ds)) (codes "}" ++ rest)
@@ -197,10 +201,8 @@ module _ (laws : ReadLaws) where
 
   compound-begins : (kind : TypeName) (ss : List Simple) (rest : List ℕ) → is_readable_compound (record { kind = kind; simples = ss }) ≡ true → begins_none white ((type_text kind ++ flat_map simple_text ss) ++ rest) ≡ true
   compound-begins (types.Name n) ss rest e =
-      let plain = and-left (is_plain_name n) (list_all is_readable_simple ss) e in
-      ap (λ t. begins_none white ((t ++ flat_map simple_text ss) ++ rest)) (laws.named n plain)
-      ∙ ap (begins_none white) (append_assoc n (flat_map simple_text ss) rest)
-      ∙ laws.no_white n (flat_map simple_text ss ++ rest) plain
+      ap (begins_none white) (append_assoc (name_text n) (flat_map simple_text ss) rest)
+      ∙ laws.no_white n (flat_map simple_text ss ++ rest) (and-left (is_name n) (list_all is_readable_simple ss) e)
   compound-begins types.Universal ss rest e = refl
   compound-begins types.None [] rest e = absurd (cc e)
   compound-begins types.None (s ∷ ss) rest e = ap (begins_none white) (append_assoc (simple_text s) (flat_map simple_text ss) rest) ∙ simple-begins s (flat_map simple_text ss ++ rest)
@@ -247,5 +249,8 @@ module _ (laws : ReadLaws) where
   -- the text of a printed sheet reads as the words of its components
   pub text-reads : ValueLaws → ListText → (runs : List Run) → ArePrintable runs → AllStand runs → Reads (runs_text runs) (words_all (sheet_again runs))
   text-reads values lists runs p stands =
+      let text = runs_text runs in
       let P : List ℕ → Type 0 = λ t. ReadsTo t (words_all (sheet_again runs)) [] in
-      subst P (append-nil (text_of (sheet_again runs)) ∙ text-sheet values lists runs p) (sheet-reads values lists runs p stands)
+      let behind : after_mark text ≡ text = ap (λ b. drop (cond b 3 0) text) (sheet-unmarked runs p) in
+      let reads : P text = subst P (append-nil (text_of (sheet_again runs)) ∙ text-sheet values lists runs p) (sheet-reads values lists runs p stands) in
+      (ap bad_place behind ∙ clean-bad text (sheet-clean runs p), subst P (sym behind) reads)

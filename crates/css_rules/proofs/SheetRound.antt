@@ -3,7 +3,7 @@ use Rattle.std.proofs.Common.{◌≡◌, ℕ, List, [], ◌∷◌, ◌++◌, map
 use Rattle.std.specs.List.{AllByRecursion}
 use Rattle.std.proofs.lemmas.List.{append-nil}
 use Rattle.css_tokens.specs.NameText.{name_text}
-use Rattle.css_tokens.specs.PlainNames.{is_plain_name}
+use Rattle.css_tokens.specs.Names.{is_name, name_of_word}
 use Rattle.css_rules.specs.declared.sheet.Declaration.{Declaration}
 use Rattle.css_rules.specs.Components.{is_braces, is_semicolon}
 use Rattle.css_rules.specs.Cuts.{trimmed_start}
@@ -20,9 +20,9 @@ use Rattle.css_rules.proofs.Heads.{piece_of, braces-Single, semicolon-Single}
 use Rattle.css_rules.proofs.ValueFacts.{ValueLaws}
 use Rattle.css_rules.proofs.DeclarationAgain.{read_again, bare-again, goes-again, item-again}
 
--- what the token crate ensures of plain names
+-- what the token crate ensures of the texts of names
 pub record NameLaws : Type 0 where
-  pub plain : (name : List ℕ) → IsTrue (is_plain_name name) → name_text name ≡ name
+  pub again : (name : List ℕ) → is_name name ≡ true → name_of_word kinds.Ident (name_text name) ≡ name
 
 semicolon-mark : is_semicolon semicolon ≡ true
 semicolon-mark = semicolon-Single (piece_of (word kinds.Semicolon (codes ";")))
@@ -31,16 +31,16 @@ semicolon-mark = semicolon-Single (piece_of (word kinds.Semicolon (codes ";")))
 pub declarations-again : ValueLaws → NameLaws → (d : Declaration) (ds : List Declaration) → AllByRecursion IsPrintableDeclaration (d ∷ ds)
     → declarations_of (declarations_again (d ∷ ds)) ≡ Some (map read_again (d ∷ ds))
 declarations-again laws names d [] printable =
-    let plain = names.plain d.name printable.0.name in
+    let same = names.again d.name printable.0.name in
     ap declarations_of (append-nil (declaration_again d))
-    ∙ ap (read_all item_of) (whole-cut ends_item [] (declaration_again d) (goes-again laws d printable.0 plain))
-    ∙ ap (λ o. joined o (Some [])) (item-again laws d None printable.0 plain refl)
+    ∙ ap (read_all item_of) (whole-cut ends_item [] (declaration_again d) (goes-again laws d printable.0 same))
+    ∙ ap (λ o. joined o (Some [])) (item-again laws d None printable.0 same refl)
 declarations-again laws names d (e ∷ ds) printable =
-    let plain = names.plain d.name printable.0.name in
+    let same = names.again d.name printable.0.name in
     ap (read_all item_of)
-    (front-cut ends_item [] (declaration_again d) semicolon (declaration_again e ++ more_again ds) (goes-again laws d printable.0 plain)
+    (front-cut ends_item [] (declaration_again d) semicolon (declaration_again e ++ more_again ds) (goes-again laws d printable.0 same)
     (ap (λ b. b || (is_braces semicolon && not (begins_custom (trimmed_start (declaration_again d))))) semicolon-mark))
-    ∙ ap (λ o. joined o (declarations_of (declarations_again (e ∷ ds)))) (item-again laws d (Some semicolon) printable.0 plain (braces-Single (piece_of (word kinds.Semicolon (codes ";")))))
+    ∙ ap (λ o. joined o (declarations_of (declarations_again (e ∷ ds)))) (item-again laws d (Some semicolon) printable.0 same (braces-Single (piece_of (word kinds.Semicolon (codes ";")))))
     ∙ ap (option_map (λ more. read_again d ∷ more)) (declarations-again laws names e ds printable.1)
 
 -- which say what they were printed from

@@ -6,7 +6,7 @@ use Rattle.css_tokens.specs.declared.kind.Kind.TheVariants as kinds
 use Rattle.css_tokens.specs.declared.component.Component.{Component}
 use Rattle.css_tokens.specs.Piece.{Piece, Word, word_of}
 use Rattle.css_tokens.specs.Trees.{pieces_all, words_all, all_formed}
-use Rattle.css_tokens.specs.Values.{is_gap, is_white, short_text, short_word, before_run, single_gaps, after_gap, before_gap, word_kind, printed_words}
+use Rattle.css_tokens.specs.Values.{is_gap, is_white, short_text, short_word, before_run, single_gaps, after_gap, before_gap, word_kind, printed_words, shortened_words, parted, parting_word, behind_taking, takes_space}
 use Rattle.css_tokens.specs.ValueAgain.{value_again}
 use Rattle.css_rules.specs.declared.refusal.Sought.{Sought}
 use Rattle.css_rules.specs.declared.refusal.Sought.TheVariants.{ColonOrBracket, Ampersand, RevertLayer, RevertLayerOrUrl}
@@ -54,11 +54,11 @@ module _ (test : Word → Bool) where
       at true false = f
       at false white = ap (λ b. b || (test v || list_any test ws)) e ∙ f
 
-  any-single_gaps : (ws : List Word) → list_any test ws ≡ false → list_any test (single_gaps word_kind ws) ≡ false
+  pub any-single_gaps : (ws : List Word) → list_any test ws ≡ false → list_any test (single_gaps word_kind ws) ≡ false
   any-single_gaps [] e = refl
   any-single_gaps (w ∷ ws) e = any-before_run w (single_gaps word_kind ws) (or_false_left (test w) (list_any test ws) e) (any-single_gaps ws (or_false_right (test w) (list_any test ws) e))
 
-  any-after_gap : (ws : List Word) → list_any test ws ≡ false → list_any test (after_gap word_kind ws) ≡ false
+  pub any-after_gap : (ws : List Word) → list_any test ws ≡ false → list_any test (after_gap word_kind ws) ≡ false
   any-after_gap [] e = refl
   any-after_gap (w ∷ ws) e = at (is_gap w.kind)
     where
@@ -66,7 +66,7 @@ module _ (test : Word → Bool) where
       at true = or_false_right (test w) (list_any test ws) e
       at false = e
 
-  any-before_gap : (ws : List Word) → list_any test ws ≡ false → list_any test (before_gap word_kind ws) ≡ false
+  pub any-before_gap : (ws : List Word) → list_any test ws ≡ false → list_any test (before_gap word_kind ws) ≡ false
   any-before_gap [] e = refl
   any-before_gap (w ∷ []) e = at (is_gap w.kind)
     where
@@ -77,6 +77,27 @@ module _ (test : Word → Bool) where
       ap (λ b. b || list_any test (before_gap word_kind (v ∷ ws))) (or_false_left (test w) (list_any test (v ∷ ws)) e)
       ∙ any-before_gap (v ∷ ws) (or_false_right (test w) (list_any test (v ∷ ws)) e)
 
+  any-behind : (takes : Bool) (ws : List Word) → test parting_word ≡ false → list_any test ws ≡ false → list_any test (behind_taking word_kind parting_word takes ws) ≡ false
+  any-behind false ws e f = f
+  any-behind true [] e f = refl
+  any-behind true (w ∷ ws) e f = at (is_white w.kind)
+    where
+      at : (white : Bool) → list_any test (cond white (parting_word ∷ w ∷ ws) (w ∷ ws)) ≡ false
+      at true = ap (λ b. b || list_any test (w ∷ ws)) e ∙ f
+      at false = f
+
+  pub any-parted : (ws : List Word) → test parting_word ≡ false → list_any test ws ≡ false → list_any test (parted word_kind parting_word takes_space ws) ≡ false
+  any-parted [] e f = refl
+  any-parted (w ∷ ws) e f =
+      ap (λ b. b || list_any test (behind_taking word_kind parting_word (takes_space w) (parted word_kind parting_word takes_space ws))) (or_false_left (test w) (list_any test ws) f)
+      ∙ any-behind (takes_space w) (parted word_kind parting_word takes_space ws) e (any-parted ws e (or_false_right (test w) (list_any test ws) f))
+
+parting-unsought : (sought : Sought) → word_sought sought parting_word ≡ false
+parting-unsought ColonOrBracket = refl
+parting-unsought Ampersand = refl
+parting-unsought RevertLayer = refl
+parting-unsought RevertLayerOrUrl = refl
+
 any-short : (sought : Sought) (ws : List Word) → list_any (word_sought sought) (map short_word ws) ≡ list_any (word_sought sought) ws
 any-short sought [] = refl
 any-short sought (w ∷ ws) = ap (λ b. b || list_any (word_sought sought) (map short_word ws)) (short-sought sought w.kind w.text) ∙ ap (λ b. word_sought sought w || b) (any-short sought ws)
@@ -86,8 +107,9 @@ any-printed : (sought : Sought) (ws : List Word) → list_any (word_sought sough
 any-printed sought ws none =
     let short = map short_word ws in
     let spaced = single_gaps word_kind short in
-    any-before_gap (word_sought sought) (after_gap word_kind spaced)
-    (any-after_gap (word_sought sought) spaced (any-single_gaps (word_sought sought) short (any-short sought ws ∙ none)))
+    any-parted (word_sought sought) (shortened_words ws) (parting-unsought sought)
+    (any-before_gap (word_sought sought) (after_gap word_kind spaced)
+    (any-after_gap (word_sought sought) spaced (any-single_gaps (word_sought sought) short (any-short sought ws ∙ none))))
 
 pub unsought-again : ValueLaws → (sought : Sought) (v : List Component) → all_formed v ≡ true → has_sought sought v ≡ false → has_sought sought (value_again v) ≡ false
 unsought-again laws sought v formed none =

@@ -12,13 +12,14 @@ use Rattle.css_tokens.specs.Piece.{Piece, Word, word_of, spelled}
 use Rattle.css_tokens.specs.Tokens.{classes_of}
 use Rattle.css_tokens.specs.Trees.{is_text, words_all}
 use Rattle.css_tokens.specs.Values.{is_gap as is_gap_kind}
-use Rattle.css_rules.specs.Components.{head, is_gap, is_braces, is_semicolon, is_semicolon_kind, is_delim_kind, is_bang, is_ident, is_keyword}
+use Rattle.css_rules.specs.Components.{head, is_gap, is_braces, is_semicolon, is_semicolon_kind, is_delim_kind, is_bang, is_ident, is_keyword, name_of}
 use Rattle.css_rules.specs.Cuts.{Cut, cuts_behind, with_front, trimmed, trimmed_start, trimmed_end}
 use Rattle.css_rules.specs.Declarations.{is_important}
 use Rattle.css_rules.specs.Sheets.{ends_in_braces}
 use Rattle.css_rules.proofs.CutAgain.{trimmed_end-solid}
 use Rattle.css_rules.proofs.CutLemmas.{cuts-unmarked, cuts-marked, trimmed_start-gap, trimmed_start-other}
-use Rattle.css_rules.proofs.Heads.{head-Single, ident-Block, gap-Single, gap-Block, semicolon-Single, semicolon-Block, bang-Single, bang-Block}
+use Rattle.css_rules.proofs.Heads.{head-Single, ident-Single, ident-Block, gap-Single, gap-Block, semicolon-Single, semicolon-Block, bang-Single, bang-Block}
+use Rattle.css_rules.proofs.ImportantNames.{important-stop}
 use Rattle.css_rules.proofs.SelectorSpelling.{and-left, and-right}
 use Rattle.css_rules.proofs.StandLists.{ReadingLaws, AreRead, IsStop, StandsAt, StandsBefore, words-Single, first-stays, stands-front, stands-back, stands-tail, single-stop}
 use Rattle.css_rules.proofs.ValueFacts.{shape_of}
@@ -213,10 +214,11 @@ module _ (laws : ReadingLaws) where
   keyword-bang c [] xs s is = elim (shape_of c) [
     | inl one ↦
         let p = one.0 in
-        let keyword = and-right (is_ident c) (is_keyword (codes "important") (head c).text) is in
-        let text = subst (λ (q : Piece). is_keyword (codes "important") q.text ≡ true) (ap head one.1 ∙ head-Single p) keyword in
-        subst (λ (d : Component). IsStopAfterBang (d ∷ xs) s) (sym one.1) (single-bang p xs s (laws.bang_important p.text (spelled (words_all xs) ++ s) text))
-    | inr b ↦ absurd (false≢true (sym (ident-Block b.0) ∙ sym (ap is_ident b.1) ∙ and-left (is_ident c) (is_keyword (codes "important") (head c).text) is))
+        let keyword = and-right (is_ident c) (is_keyword (codes "important") (name_of (head c))) is in
+        let name = subst (λ (q : Piece). is_keyword (codes "important") (name_of q) ≡ true) (ap head one.1 ∙ head-Single p) keyword in
+        let ident = sym (ident-Single p) ∙ sym (ap is_ident one.1) ∙ and-left (is_ident c) (is_keyword (codes "important") (name_of (head c))) is in
+        subst (λ (d : Component). IsStopAfterBang (d ∷ xs) s) (sym one.1) (single-bang p xs s (important-stop p.kind p.text (spelled (words_all xs) ++ s) ident name))
+    | inr b ↦ absurd (false≢true (sym (ident-Block b.0) ∙ sym (ap is_ident b.1) ∙ and-left (is_ident c) (is_keyword (codes "important") (name_of (head c))) is))
   ]
 
   important-bang : (front more : List Component) (s : List ℕ) → is_important (trimmed front) ≡ true → StandsAt (front ++ more) s → IsStopAfterBang (front ++ more) s

@@ -24,7 +24,6 @@ pub record ReadingLaws : Type 0 where
   pub back : (xs ys : List Word) (s : List ℕ) → ReadsTo (spelled (xs ++ ys) ++ s) (xs ++ ys) s → ReadsTo (spelled ys ++ s) ys s
   pub stops : (w : Word) (rest : List ℕ) → StaysFirst w rest → is_end_kind w.kind ≡ true → is_stop (classes_of (w.text ++ rest)) ≡ true
   pub bang_gap : (w : Word) (rest : List ℕ) → StaysFirst w rest → is_gap_word w.kind ≡ true → is_stop (classes_of (codes "!" ++ (w.text ++ rest))) ≡ true
-  pub bang_important : (u rest : List ℕ) → is_text (str_to_ascii_lowercase u) (codes "important") ≡ true → is_stop (classes_of (codes "!" ++ (u ++ rest))) ≡ true
 
 -- A text that reads as words is what they spell.
 

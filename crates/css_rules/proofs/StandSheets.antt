@@ -7,7 +7,7 @@ use Rattle.std.proofs.lemmas.List.Concat.{flat_map-append}
 use Rattle.css_tokens.specs.declared.component.Component.{Component}
 use Rattle.css_tokens.specs.Again.{is_stop}
 use Rattle.css_tokens.specs.Piece.{Piece, spelled}
-use Rattle.css_tokens.specs.Tokens.{Reads, ReadsTo, classes_of}
+use Rattle.css_tokens.specs.Tokens.{Reads, ReadsTo, classes_of, after_mark}
 use Rattle.css_tokens.specs.Trees.{words_all}
 use Rattle.css_rules.specs.Contexts.{outside, under_list}
 use Rattle.css_rules.specs.declared.sheet.Declaration.{Declaration}
@@ -16,7 +16,7 @@ use Rattle.css_rules.specs.declared.sheet.Item as item
 use Rattle.css_rules.specs.declared.sheet.Style as style
 use Rattle.css_rules.specs.declared.sheet.Sheet.{Sheet}
 use Rattle.css_rules.specs.BareSelectors.{BareSelector, bare_list}
-use Rattle.css_rules.specs.Components.{head, inside, is_ident, is_colon, is_bang, is_semicolon, is_braces, is_custom}
+use Rattle.css_rules.specs.Components.{head, inside, is_ident, is_colon, is_bang, is_semicolon, is_braces, is_custom, name_of}
 use Rattle.css_rules.specs.Cuts.{Cut, cuts, cuts_at, trimmed, trimmed_start}
 use Rattle.css_rules.specs.Declarations.{property_name, after_colon, may_be_value, is_important, value_of, declared, declared_after, declaration_of, begins_custom}
 use Rattle.css_rules.specs.Runs.{Run, runs_within, runs_of, runs_within-Plain, runs_within-Style}
@@ -87,13 +87,13 @@ module _ (laws : ReadingLaws) where
   -- Declarations.
 
   declared-at : (name : Piece) (v : List Component × Bool) (b : Bool) → StandsBefore v.0
-      → OfSome Stands (if b then Some (record { name = property_name name.text; value = v.0; important = v.1; at = name.at }) else None)
+      → OfSome Stands (if b then Some (record { name = property_name (name_of name); value = v.0; important = v.1; at = name.at }) else None)
   declared-at name v true stands = record { behind = stands.behind; stop = stands.stop; reads = stands.reads }
   declared-at name v false stands = tt
 
   declared-stands : (name : Piece) (o : Option (List Component × Bool)) → ValueStands o → OfSome Stands (declared name o)
   declared-stands name None stands = tt
-  declared-stands name (Some v) stands = declared-at name v (may_be_value (is_custom name.text) v.0) stands
+  declared-stands name (Some v) stands = declared-at name v (may_be_value (is_custom (name_of name)) v.0) stands
 
   tail-stands : (name : Piece) (cs : List Component) (s : List ℕ) (b : Bool) → StandsAt cs s → is_stop (classes_of s) ≡ true → OfSome Stands (declared_after name (if b then Some cs else None))
   tail-stands name cs s true stands stop = declared-stands name (value_of (cuts_at is_bang cs)) (value-stands (cuts_at is_bang cs) cs s (joins-cuts is_bang bang_ends (λ b c e. e) [] cs) stands stop)
@@ -175,7 +175,7 @@ module _ (laws : ReadingLaws) where
 
   pub sheet-stands : (text : List ℕ) (cs : List Component) (sheet : Sheet) → Reads text (words_all cs) → sheet_of cs ≡ Some sheet → AllStand (runs_of sheet)
   sheet-stands text cs sheet reads e =
-      let whole : StandsAt cs [] = record { reads = subst (λ (t : List ℕ). ReadsTo t (words_all cs) []) (text-spelled text (words_all cs) [] reads) reads } in
+      let whole : StandsAt cs [] = record { reads = subst (λ (t : List ℕ). ReadsTo t (words_all cs) []) (text-spelled (after_mark text) (words_all cs) [] reads.1) reads.1 } in
       let anything : Component → Bool = λ c. true in
       read_all-holds TopStands CutStands rule_of tt both-stand rule-stands (cuts ends_rule cs)
       (marks-stand laws anything (cuts ends_rule cs) cs [] (joins-cuts anything ends_rule (λ b c e. refl) [] cs) whole)

@@ -12,7 +12,7 @@ use Rattle.css_tokens.specs.declared.component.Component.TheVariants.{rolls-Sing
 use Rattle.css_tokens.specs.Piece.{Piece}
 use Rattle.css_tokens.specs.Trees.{words_all, all_formed, is_formed, opens, is_formed-Block, is_text}
 use Rattle.css_tokens.specs.Values.{is_gap as is_gap_kind, short_text, value_words, value_text}
-use Rattle.css_tokens.specs.ValueAgain.{is_solid, short_piece, again, all_again, value_again, head_kind-Single, head_kind-Block, again-Single, again-Block}
+use Rattle.css_tokens.specs.ValueAgain.{is_solid, short_piece, again, all_again, value_again, again-Single, again-Block, head_kind-Single, head_kind-Block}
 use Rattle.css_tokens.specs.Values.{is_gap as is_gap_kind}
 use Rattle.css_rules.specs.Components.{Layer, is_gap, is_semicolon, is_bang, is_braces, is_semicolon_kind, is_delim_kind}
 use Rattle.css_rules.specs.Cuts.{trimmed, trimmed_end}

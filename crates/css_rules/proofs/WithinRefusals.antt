@@ -10,7 +10,7 @@ use Rattle.css_rules.specs.declared.refusal.Refusal.{Refusal}
 use Rattle.css_rules.specs.declared.refusal.Sought.{Sought}
 use Rattle.css_rules.specs.declared.refusal.Sought.TheVariants.{ColonOrBracket, Ampersand}
 use Rattle.css_rules.specs.declared.sheet.Declaration.{Declaration}
-use Rattle.css_rules.specs.Components.{head, inside, is_ident, is_colon, is_bang, is_semicolon, is_braces, is_custom}
+use Rattle.css_rules.specs.Components.{head, inside, is_ident, is_colon, is_bang, is_semicolon, is_braces, is_custom, name_of}
 use Rattle.css_rules.specs.Cuts.{Cut, cuts, cuts_at, trimmed, trimmed_start}
 use Rattle.css_rules.specs.Declarations.{property_name, after_colon, may_be_value, is_important, value_of, declared, declared_after, declaration_of, begins_custom}
 use Rattle.css_rules.specs.Refusals.{leads, sooner, sooner_of, unbuilt, first_refusal, is_sought, unbuilt_at, sought_for, sought_in, is_unbuilt_property}
@@ -65,13 +65,13 @@ module _ (end : ℕ) where
   value-within (value ∷ mark ∷ more ∷ cs) h = tt
 
   made-within : (name : Piece) (v : List Component × Bool) (b : Bool) → all_within v.0 ≡ true
-      → DeclaresWithin (if b then Some (record { name = property_name name.text; value = v.0; important = v.1; at = name.at }) else None)
+      → DeclaresWithin (if b then Some (record { name = property_name (name_of name); value = v.0; important = v.1; at = name.at }) else None)
   made-within name v true h = h
   made-within name v false h = tt
 
   declared-within : (name : Piece) (o : Option (List Component × Bool)) → ReadsWithin o → DeclaresWithin (declared name o)
   declared-within name None h = tt
-  declared-within name (Some v) h = made-within name v (may_be_value (is_custom name.text) v.0) h
+  declared-within name (Some v) h = made-within name v (may_be_value (is_custom (name_of name)) v.0) h
 
   abbrev TailWithin : Option (List Component) → Type 0
   TailWithin o = MatchOption o (Unit {0}) (λ tail. all_within tail ≡ true)

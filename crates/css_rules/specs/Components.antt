@@ -7,6 +7,7 @@ use Rattle.css_tokens.specs.declared.kind.Kind.TheVariants.{Ident, At, Colon, Se
 use Rattle.css_tokens.specs.declared.component.Component.{Component, out-Component}
 use Rattle.css_tokens.specs.declared.component.Component.TheOpen.{Component-F, Single, Block}
 use Rattle.css_tokens.specs.declared.component.Block as block
+use Rattle.css_tokens.specs.Names.{name_of_word}
 use Rattle.css_tokens.specs.Piece.{Piece}
 use Rattle.css_tokens.specs.Trees.{is_text}
 use Rattle.css_tokens.specs.Values.{is_gap as is_gap_kind}
@@ -45,6 +46,10 @@ inside c = layer_items (out-Component c)
 -- how many bytes of the source stand before a component
 abbrev pub place_of : Component → ℕ
 place_of c = (head c).at
+
+-- the name of a token, its escapes decoded
+abbrev pub name_of : Piece → List ℕ
+name_of token = name_of_word token.kind token.text
 
 -- a comma?
 abbrev pub is_comma_kind : Kind → Bool
@@ -112,6 +117,6 @@ is_braces c = not (is_single c) && is_text (head c).text (codes "{")
 abbrev pub is_custom : List ℕ → Bool
 is_custom name = starts_with nat_eq name (codes "--")
 
--- is it this keyword, in any case of letters?
+-- is the name this keyword, in any case of letters?
 abbrev pub is_keyword : List ℕ → List ℕ → Bool
-is_keyword keyword text = is_text (str_to_ascii_lowercase text) keyword
+is_keyword keyword name = is_text (str_to_ascii_lowercase name) keyword

@@ -5,7 +5,7 @@ use Rattle.std.specs.Str.{str_to_ascii_lowercase}
 use Rattle.css_tokens.specs.declared.component.Component.{Component}
 use Rattle.css_tokens.specs.Piece.{Piece}
 use Rattle.css_rules.specs.declared.sheet.Declaration.{Declaration}
-use Rattle.css_rules.specs.Components.{head, is_ident, is_colon, is_bang, is_braces, is_custom, is_keyword}
+use Rattle.css_rules.specs.Components.{head, name_of, is_ident, is_colon, is_bang, is_braces, is_custom, is_keyword}
 use Rattle.css_rules.specs.Cuts.{Cut, cuts_at, trimmed, trimmed_start}
 
 -- a custom property keeps its name, any other is in lower case
@@ -25,7 +25,7 @@ may_be_value custom (c ∷ cs) = custom || not (list_any is_braces (c ∷ cs))
 -- is this the keyword `important` alone?
 abbrev pub is_important : List Component → Bool
 is_important [] = false
-is_important (c ∷ []) = is_ident c && is_keyword (codes "important") (head c).text
+is_important (c ∷ []) = is_ident c && is_keyword (codes "important") (name_of (head c))
 is_important (c ∷ d ∷ cs) = false
 
 -- What stands behind the colon, cut at each `!`: a value, or a value and the mark of importance, and no further `!`.
@@ -39,8 +39,8 @@ value_of (value ∷ mark ∷ more ∷ cuts) = None
 abbrev pub declared : Piece → Option (List Component × Bool) → Option Declaration
 declared name None = None
 declared name (Some value) =
-    if may_be_value (is_custom name.text) value.0
-    then Some (record { name = property_name name.text; value = value.0; important = value.1; at = name.at })
+    if may_be_value (is_custom (name_of name)) value.0
+    then Some (record { name = property_name (name_of name); value = value.0; important = value.1; at = name.at })
     else None
 
 -- the declaration of this name whose value stands in what is behind the colon, where there is a colon
@@ -56,4 +56,4 @@ declaration_of (c ∷ cs) = if is_ident c then declared_after (head c) (after_co
 -- does it begin with the name of a custom property and a colon?
 abbrev pub begins_custom : List Component → Bool
 begins_custom [] = false
-begins_custom (c ∷ cs) = is_ident c && (is_custom (head c).text && is_some (after_colon (trimmed_start cs)))
+begins_custom (c ∷ cs) = is_ident c && (is_custom (name_of (head c)) && is_some (after_colon (trimmed_start cs)))

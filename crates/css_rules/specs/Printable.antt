@@ -1,14 +1,14 @@
 -- Which runs of declarations print as a text that reads as them again (CSS Syntax 3, section 10).
 use Rattle.std.specs.Prelude.{List, [], ◌∷◌, Bool, true, false, not, ◌≡◌, if◌then◌else◌}
-use Rattle.std.specs.List.{list_any, AllByRecursion}
+use Rattle.std.specs.List.{list_all, list_any, AllByRecursion}
 use Rattle.css_tokens.specs.declared.component.Component.{Component}
-use Rattle.css_tokens.specs.Trees.{all_formed}
-use Rattle.css_tokens.specs.PlainNames.{is_plain_name}
+use Rattle.css_tokens.specs.Trees.{all_formed, words_all}
+use Rattle.css_tokens.specs.Names.{is_name}
 use Rattle.css_rules.specs.declared.sheet.Declaration.{Declaration}
 use Rattle.css_rules.specs.declared.selector.Simple.{Simple}
 use Rattle.css_rules.specs.declared.selector.Simple.TheVariants.{Class, Id, Parent}
 use Rattle.css_rules.specs.BareSelectors.{BareCompound, BareSelector}
-use Rattle.css_rules.specs.ReadableSelectors.{is_readable_list}
+use Rattle.css_rules.specs.ReadableSelectors.{is_readable_list, is_spelled}
 use Rattle.css_rules.specs.Components.{is_bang, is_semicolon, is_custom, is_gap}
 use Rattle.css_rules.specs.Declarations.{property_name, may_be_value}
 use Rattle.css_rules.specs.Sheets.{is_unbuilt}
@@ -34,9 +34,9 @@ abbrev pub begins_solid : List Component → Bool
 begins_solid [] = true
 begins_solid (c ∷ cs) = not (is_gap c)
 
--- a declaration whose text reads as it again: no later stage rewrites it, its name is plain, and its value fits it, without white space or a comment in front and without a `!` or a `;`
+-- a declaration whose text reads as it again: no later stage rewrites it, it has a name, and its value fits it, of tokens that spell their kinds, without white space or a comment in front and without a `!` or a `;`
 pub record IsPrintableDeclaration (d : Declaration) : Type 0 where
-  pub name : is_plain_name d.name ≡ true
+  pub name : is_name d.name ≡ true
   pub property : property_name d.name ≡ d.name
   pub built : is_unbuilt d ≡ false
   pub fits : may_be_value (is_custom d.name) d.value ≡ true
@@ -44,6 +44,7 @@ pub record IsPrintableDeclaration (d : Declaration) : Type 0 where
   pub bangless : list_any is_bang d.value ≡ false
   pub undivided : list_any is_semicolon d.value ≡ false
   pub formed : all_formed d.value ≡ true
+  pub spelled : list_all is_spelled (words_all d.value) ≡ true
 
 -- a run of a rule that is not nested, whose selectors have a spelling, with a declaration at least, and each declaration so
 pub record IsPrintable (run : Run) : Type 0 where

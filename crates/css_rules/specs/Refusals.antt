@@ -5,7 +5,7 @@ use Rattle.css_tokens.specs.declared.kind.Kind.{Kind}
 use Rattle.css_tokens.specs.declared.kind.Kind.TheVariants.{Ident, Function, Url, Colon, Open, Delim}
 use Rattle.css_tokens.specs.declared.component.Component.{Component}
 use Rattle.css_tokens.specs.Piece.{Piece}
-use Rattle.css_tokens.specs.Tokens.{is_url as is_url_function}
+use Rattle.css_tokens.specs.Names.{name_of_word}
 use Rattle.css_tokens.specs.Trees.{pieces_all, is_text}
 use Rattle.css_rules.specs.declared.refusal.Cause.{Cause}
 use Rattle.css_rules.specs.declared.refusal.Cause.TheVariants.{Syntax, Unbuilt}
@@ -59,13 +59,13 @@ is_ampersand _ text = false
 
 -- the keyword `revert-layer`, in any case of letters (CSS Cascading 5, section 7.3.5)
 abbrev pub is_revert_layer : Kind → List ℕ → Bool
-is_revert_layer Ident text = is_keyword (codes "revert-layer") text
+is_revert_layer Ident text = is_keyword (codes "revert-layer") (name_of_word Ident text)
 is_revert_layer _ text = false
 
--- a Url, or the Function `url(` in any case of letters (CSS Syntax 3, section 4.3.4)
+-- a Url, or a Function named `url` in any case of letters (CSS Syntax 3, section 4.3.4)
 abbrev pub is_url : Kind → List ℕ → Bool
 is_url Url text = true
-is_url Function text = is_url_function text
+is_url Function text = is_keyword (codes "url") (name_of_word Function text)
 is_url _ text = false
 
 -- is it a token of this construct, which is not built yet?

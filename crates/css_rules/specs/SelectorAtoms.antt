@@ -9,7 +9,7 @@ use Rattle.css_rules.specs.declared.selector.Simple.{Simple}
 use Rattle.css_rules.specs.declared.selector.Simple.TheVariants as simples
 use Rattle.css_rules.specs.BareSelectors.{BareCompound, BareSelector}
 use Rattle.css_tokens.specs.NameText.{name_text}
-use Rattle.css_tokens.specs.PlainNames.{is_plain_name}
+use Rattle.css_tokens.specs.Names as names
 use Rattle.css_rules.specs.SelectorTexts.{compound_text, ends_in_dashes}
 use Rattle.css_rules.specs.SelectorWords as words
 
@@ -90,10 +90,10 @@ abbrev pub list_atoms : List BareSelector → List Atom
 list_atoms [] = []
 list_atoms (b ∷ bs) = selector_atoms b ++ more_atoms bs
 
--- A name, and that of a hash, is plain.
+-- A name, and that of a hash, is one that can be written.
 abbrev pub is_spelled_atom : Atom → Bool
-is_spelled_atom (name n) = is_plain_name n
-is_spelled_atom (hash n) = is_plain_name n
+is_spelled_atom (name n) = names.is_name n
+is_spelled_atom (hash n) = names.is_name n
 is_spelled_atom dot = true
 is_spelled_atom star = true
 is_spelled_atom amp = true

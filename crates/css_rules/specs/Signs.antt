@@ -1,5 +1,6 @@
 -- What component values are to the grammar of selectors (Selectors 4, section 18, Grammar).
-use Rattle.std.specs.Prelude.{ℕ, List, codes, drop, if◌then◌else◌}
+use Rattle.std.specs.Prelude.{ℕ, List, [], ◌∷◌, Bool, false, not, ◌&&◌, ◌==◌, codes, if◌then◌else◌}
+use Rattle.std.specs.Char.{is_ascii_digit}
 use Rattle.css_tokens.specs.declared.kind.Kind.{Kind}
 use Rattle.css_tokens.specs.declared.kind.Kind.TheVariants as kinds
 use Rattle.css_tokens.specs.declared.component.Component.{Component, out-Component}
@@ -9,11 +10,26 @@ use Rattle.css_tokens.specs.Piece.{Piece}
 use Rattle.css_tokens.specs.Trees.{is_text}
 use Rattle.css_rules.specs.declared.selector.sign.Sign.{Sign}
 use Rattle.css_rules.specs.declared.selector.sign.Sign.TheVariants.{Comment, White, Child, Next, Later, Name, Star, Dot, Id, Parent, Other}
-use Rattle.css_tokens.specs.PlainNames.{is_plain_name}
+use Rattle.css_tokens.specs.Names.{name_of_word}
 
--- A Hash is an id where its text after `#` is a plain name.
+-- is there a first byte, and is it no digit?
+abbrev pub starts_name : List ℕ → Bool
+starts_name [] = false
+starts_name (b ∷ bs) = not (is_ascii_digit b)
+
+-- Do these characters of names, or escapes, start an Ident, and no number and no `-` alone? (CSS Syntax 3, section 4.3.9.)
+abbrev pub starts_ident : List ℕ → Bool
+starts_ident [] = false
+starts_ident (b ∷ bs) = if b == 45 then starts_name bs else not (is_ascii_digit b)
+
+-- is it `#`, and behind it an Ident?
+abbrev pub is_id : List ℕ → Bool
+is_id [] = false
+is_id (b ∷ bs) = b == 35 && starts_ident bs
+
+-- A Hash, which is `#` and characters of names or escapes, is an id where its text after `#` is an Ident.
 abbrev pub id_of : List ℕ → ℕ → Sign
-id_of text at = if is_plain_name (drop 1 text) then Id (drop 1 text) at else Other
+id_of text at = if is_id text then Id (name_of_word kinds.Hash text) at else Other
 
 -- the sign of a Delim of this text
 abbrev pub delim_of : List ℕ → ℕ → Sign
@@ -30,7 +46,7 @@ delim_of text at =
 abbrev pub kind_sign : Kind → List ℕ → ℕ → Sign
 kind_sign kinds.Comment text at = Comment
 kind_sign kinds.White text at = White
-kind_sign kinds.Ident text at = Name text
+kind_sign kinds.Ident text at = Name (name_of_word kinds.Ident text)
 kind_sign kinds.Hash text at = id_of text at
 kind_sign kinds.Delim text at = delim_of text at
 kind_sign kinds.Function text at = Other

@@ -1,6 +1,6 @@
 //! Lists of components cut at marks, and without white space and comments at their ends.
 
-ghost use Rattle.std.specs.Prelude.{◌≡◌, ◌≤◌, ◌+◌, ◌∷◌, [], length, drop, slice_get, slice_range, MatchOption};
+ghost use Rattle.std.specs.Prelude.{◌≡◌, ◌≤◌, ◌+◌, ◌∷◌, [], IfOk, length, drop, slice_get, slice_range, MatchOption};
 ghost use Rattle.std.specs.Option.{option_copied};
 ghost use Rattle.css_rules.specs.Components.{is_semicolon};
 ghost use Rattle.css_rules.specs.Cuts.{trimmed, trimmed_start, trimmed_end};
@@ -9,7 +9,8 @@ ghost use Rattle.css_rules.specs.Sheets.{ends_item, ends_rule};
 
 use crate::declaration::begins_custom;
 use crate::parts::{begins_at_rule, head_of, is_braces, is_gap, is_token};
-use css_tokens::{Component, Kind};
+use css_tokens::{Component, Kind, OutOfMemory};
+use std::alloc::Global;
 
 /// What a list is cut at.
 #[derive(Clone, Copy, Debug)]
@@ -57,13 +58,13 @@ pub fn rule_mark(components: &[Component]) -> Mark
 }
 
 /// What ends the item of a block that begins with these components.
-pub fn item_mark(components: &[Component]) -> Mark
-    ensures { EndsAt ends_item (is_mark result) components.now }
+pub fn item_mark(alloc: Global, components: &[Component]) -> Result<Mark, OutOfMemory>
+    ensures { IfOk result (λ mark. EndsAt ends_item (is_mark mark) components.now) }
 {
-    if begins_custom(trimmed_start(components)) {
-        Mark::Semicolon
+    if begins_custom(alloc, trimmed_start(components))? {
+        Ok(Mark::Semicolon)
     } else {
-        Mark::BracesOrSemicolon
+        Ok(Mark::BracesOrSemicolon)
     }
 }
 

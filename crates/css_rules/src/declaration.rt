@@ -1,17 +1,17 @@
 //! Declarations: a name, a colon, a value, and perhaps `!important` (CSS Syntax 3, section 5.4.6).
 
-ghost use Rattle.std.specs.Prelude.{◌≡◌, ◌∷◌, [], IfOk, length};
+ghost use Rattle.std.specs.Prelude.{◌≡◌, ◌∷◌, [], ◌&&◌, IfOk, IsTrue, length, not};
 ghost use Rattle.std.specs.List.{list_any};
 ghost use Rattle.std.specs.Char.{is_ascii_uppercase};
 ghost use Rattle.std.specs.Option.{option_map};
-ghost use Rattle.css_rules.specs.Components.{is_ident, is_colon, is_custom, is_bang};
+ghost use Rattle.css_rules.specs.Components.{is_ident, is_ident_kind, is_colon, is_custom, is_bang, name_of};
 ghost use Rattle.css_rules.specs.Cuts.{cuts_at};
 ghost use Rattle.css_rules.specs.Declarations.{property_name, after_colon, is_important, may_be_value, value_of, declared, declaration_of, begins_custom};
 
 use crate::cuts::{Mark, end_of_cut, trimmed, trimmed_start};
 use crate::parts::{head_of, is_block_in, is_keyword, is_token};
 use crate::sheet::Declaration;
-use css_tokens::{Component, Kind, OutOfMemory, Text, Token, copy_all};
+use css_tokens::{Component, Kind, OutOfMemory, Text, Token, copy_all, name_of};
 use std::alloc::Global;
 
 fn is_ident(component: &Component) -> bool
@@ -39,16 +39,21 @@ fn has_capitals(name: &str) -> bool
     name.as_bytes().iter().any(|byte| byte.is_ascii_uppercase())
 }
 
-fn property_name<'a>(alloc: Global, name: &'a str) -> Result<Text<'a>, OutOfMemory>
-    ensures { IfOk result (λ text. text ≡ property_name name.now) }
+/// Whether the name of a property is kept in other letters than it is written in.
+fn is_lowered(name: &str) -> bool
+    ensures { result ≡ (not (is_custom name.now) && list_any is_ascii_uppercase name.now) }
 {
-    if is_custom(name) {
-        Ok(Text::lent(name))
-    } else if has_capitals(name) {
-        Ok(Text::owned(name.to_ascii_lowercase(alloc)?))
-    } else {
-        Ok(Text::lent(name))
+    !is_custom(name) && has_capitals(name)
+}
+
+/// The name of a property as it is kept. Takes memory only where it is kept in other letters.
+fn property_name<'a>(alloc: Global, name: Text<'a>) -> Result<Text<'a>, OutOfMemory>
+    ensures { IfOk result (λ text. text ≡ property_name name.entry) }
+{
+    if is_lowered(name.as_str()) {
+        return Ok(Text::owned(name.as_str().to_ascii_lowercase(alloc)?));
     }
+    Ok(name)
 }
 
 /// What stands behind a colon, where the components begin with one.
@@ -62,13 +67,17 @@ fn after_colon<'s, 'a>(components: &'s [Component<'a>]) -> Option<&'s [Component
 }
 
 /// Whether the components are the keyword `important` alone.
-fn is_important(components: &[Component]) -> bool
-    ensures { result ≡ is_important components.now }
+fn is_important(alloc: Global, components: &[Component]) -> Result<bool, OutOfMemory>
+    ensures { IfOk result (λ is. is ≡ is_important components.now) }
 {
     let [word] = components else {
-        return false;
+        return Ok(false);
     };
-    is_ident(word) && is_keyword(head_of(word).text, "important")
+    if is_ident(word) {
+        is_keyword(alloc, head_of(word), "important")
+    } else {
+        Ok(false)
+    }
 }
 
 /// A value, and whether it is marked important.
@@ -79,28 +88,31 @@ struct Marked<'s, 'a> {
 }
 
 /// The value behind a colon, and whether it is marked important. Nothing where a `!` stands elsewhere.
-fn marked_value<'s, 'a>(tail: &'s [Component<'a>]) -> Option<Marked<'s, 'a>>
-    ensures { option_map (λ marked. (marked.value.now, marked.important)) result ≡ value_of (cuts_at is_bang tail.now) }
+fn marked_value<'s, 'a>(
+    alloc: Global,
+    tail: &'s [Component<'a>],
+) -> Result<Option<Marked<'s, 'a>>, OutOfMemory>
+    ensures { IfOk result (λ found. option_map (λ marked. (marked.value.now, marked.important)) found ≡ value_of (cuts_at is_bang tail.now)) }
 {
     let end = end_of_cut(tail, 0, Mark::Bang);
     let value = trimmed(&tail[..end]);
     if end == tail.len() {
-        return Some(Marked {
+        return Ok(Some(Marked {
             value,
             important: false,
-        });
+        }));
     }
     let next = end_of_cut(tail, end + 1, Mark::Bang);
     if next < tail.len() {
-        return None;
+        return Ok(None);
     }
-    if is_important(trimmed(&tail[end + 1..next])) {
-        Some(Marked {
+    if is_important(alloc, trimmed(&tail[end + 1..next]))? {
+        Ok(Some(Marked {
             value,
             important: true,
-        })
+        }))
     } else {
-        None
+        Ok(None)
     }
 }
 
@@ -116,16 +128,18 @@ fn declared<'a>(
     name: &Token<'a>,
     tail: &[Component<'a>],
 ) -> Result<Option<Declaration<'a>>, OutOfMemory>
+    requires { IsTrue (is_ident_kind name.now.kind) }
     ensures { IfOk result (λ declaration. declaration ≡ declared name.now (value_of (cuts_at is_bang tail.now))) }
 {
-    let Some(marked) = marked_value(tail) else {
+    let Some(marked) = marked_value(alloc, tail)? else {
         return Ok(None);
     };
-    if !may_be_value(is_custom(name.text), marked.value) {
+    let property = name_of(alloc, name)?;
+    if !may_be_value(is_custom(property.as_str()), marked.value) {
         return Ok(None);
     }
     Ok(Some(Declaration {
-        name: property_name(alloc, name.text)?,
+        name: property_name(alloc, property)?,
         value: copy_all(alloc, marked.value)?,
         important: marked.important,
         at: name.at,
@@ -151,13 +165,27 @@ pub fn read_declaration<'a>(
     }
 }
 
+/// Whether an Ident is the name of a custom property. One that begins with neither `-` nor an escape is looked at no further.
+fn names_custom(alloc: Global, token: &Token) -> Result<bool, OutOfMemory>
+    requires { IsTrue (is_ident_kind token.now.kind) }
+    ensures { IfOk result (λ is. is ≡ is_custom (name_of token.now)) }
+{
+    match token.text.as_bytes().first() {
+        Some(b'-' | b'\\') => Ok(is_custom(name_of(alloc, token)?.as_str())),
+        _ => Ok(false),
+    }
+}
+
 /// Whether the components begin with the name of a custom property and a colon.
-pub fn begins_custom(components: &[Component]) -> bool
-    ensures { result ≡ begins_custom components.now }
+pub fn begins_custom(alloc: Global, components: &[Component]) -> Result<bool, OutOfMemory>
+    ensures { IfOk result (λ is. is ≡ begins_custom components.now) }
 {
     let [first, rest @ ..] = components else {
-        return false;
+        return Ok(false);
     };
-    is_ident(first)
-        && (is_custom(head_of(first).text) && after_colon(trimmed_start(rest)).is_some())
+    if is_ident(first) && after_colon(trimmed_start(rest)).is_some() {
+        names_custom(alloc, head_of(first))
+    } else {
+        Ok(false)
+    }
 }

@@ -5,6 +5,7 @@ ghost use Rattle.css_rules.specs.Declarations.{may_be_value, property_name};
 ghost use Rattle.css_rules.specs.Components.{is_custom, is_keyword};
 ghost use Rattle.css_rules.specs.Refusals.{first_refusal, syntax, unbuilt, is_colon_or_bracket, is_revert_layer, is_unbuilt_property, is_url};
 ghost use Rattle.css_rules.specs.SelectorTexts.{combinator_text};
+ghost use Rattle.css_rules.specs.Signs.{starts_ident};
 ghost use Rattle.css_rules.specs.declared.selector.Combinator.TheVariants.{Descendant, Child, Next, Later};
 ghost use Rattle.css_tokens.specs.declared.kind.Kind.TheVariants.{Colon, Function, Ident, Open, Url};
 
@@ -47,6 +48,8 @@ pub fn tokens_wait()
     ensures revert { is_revert_layer Ident (codes "revert") ≡ false }
     ensures url { is_url Url (codes "url(a)") ≡ true }
     ensures url_of_a_string { is_url Function (codes "URL(") ≡ true }
+    ensures escaped_url { is_url Function (codes "u\\52 l(") ≡ true }
+    ensures escaped_revert_layer { is_revert_layer Ident (codes "revert-la\\79 er") ≡ true }
     ensures other_function { is_url Function (codes "my-url(") ≡ false }
 {}
 
@@ -61,6 +64,18 @@ pub fn names_of_properties()
     ensures other_keyword { is_keyword (codes "important") (codes "importan") ≡ false }
     ensures empty_custom_value { may_be_value true [] ≡ true }
     ensures empty_value { may_be_value false [] ≡ false }
+{}
+
+/// Which texts behind a `#` start an Ident (CSS Syntax 3, section 4.3.9).
+pub fn names_of_ids()
+    ensures letter { starts_ident (codes "a") ≡ true }
+    ensures escape { starts_ident (codes "\\31 ") ≡ true }
+    ensures two_dashes { starts_ident (codes "--") ≡ true }
+    ensures dash_and_letter { starts_ident (codes "-a") ≡ true }
+    ensures dash_and_digit { starts_ident (codes "-1") ≡ false }
+    ensures dash { starts_ident (codes "-") ≡ false }
+    ensures digit { starts_ident (codes "1a") ≡ false }
+    ensures nothing { starts_ident [] ≡ false }
 {}
 
 /// How combinators are written: a `>` behind a name that ends in `--` has a space before it, since `-->` is a token.

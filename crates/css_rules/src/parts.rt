@@ -1,12 +1,14 @@
 //! Tests of components that the readers share.
 
-ghost use Rattle.std.specs.Prelude.{◌≡◌};
+ghost use Rattle.std.specs.Prelude.{◌≡◌, IsTrue, IfOk};
 ghost use Rattle.std.specs.List.{list_any};
 ghost use Rattle.std.specs.Str.{str_to_ascii_lowercase};
-ghost use Rattle.css_rules.specs.Components.{head, is_at_keyword, is_braces, is_comma, is_gap, is_keyword, is_single, place_of};
+ghost use Rattle.css_rules.specs.Components.{head, is_at_keyword, is_braces, is_comma, is_gap, is_keyword, is_single, name_of, place_of};
 ghost use Rattle.css_rules.specs.Sheets.{begins_at_rule};
+ghost use Rattle.css_tokens.specs.Names.{has_name};
 
-use css_tokens::{Component, Kind, Token, is_gap as is_gap_kind};
+use css_tokens::{Component, Kind, OutOfMemory, Token, is_gap as is_gap_kind, name_of};
+use std::alloc::Global;
 
 /// The first token of a component.
 pub fn head_of<'s, 'a>(component: &'s Component<'a>) -> &'s Token<'a>
@@ -49,12 +51,17 @@ pub fn is_comma(component: &Component) -> bool
     is_token(component) && matches!(head_of(component).kind, Kind::Comma)
 }
 
-/// Whether a text is a keyword, which is given in lower case, in any case of letters.
-pub fn is_keyword(text: &str, keyword: &str) -> bool
-    requires { str_to_ascii_lowercase keyword.now ≡ keyword.now }
-    ensures { result ≡ is_keyword keyword.now text.now }
+/// Whether the name of a token is a keyword, which is given in lower case, in any case of letters.
+pub fn is_keyword(alloc: Global, token: &Token, keyword: &str) -> Result<bool, OutOfMemory>
+    requires named { IsTrue (has_name token.now.kind) }
+    requires lower { str_to_ascii_lowercase keyword.now ≡ keyword.now }
+    ensures { IfOk result (λ is. is ≡ is_keyword keyword.now (name_of token.now)) }
 {
-    text.eq_ignore_ascii_case(keyword)
+    Ok(
+        name_of(alloc, token)?
+            .as_str()
+            .eq_ignore_ascii_case(keyword),
+    )
 }
 
 /// Whether a `{}` block stands among the components.

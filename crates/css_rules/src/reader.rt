@@ -86,11 +86,15 @@ fn sought_for(name: &str) -> Sought
 }
 
 /// What a declaration is refused for, which stands at a place.
-fn declaration_refusal(at: u32, declaration: &Option<Declaration>) -> Option<Refusal>
-    ensures { result ≡ first_refusal (declaration_refusals at declaration.now) }
+fn declaration_refusal(
+    alloc: Global,
+    at: u32,
+    declaration: &Option<Declaration>,
+) -> Result<Option<Refusal>, OutOfMemory>
+    ensures { IfOk result (λ refusal. refusal ≡ first_refusal (declaration_refusals at declaration.now)) }
 {
     let Some(declaration) = declaration else {
-        return Some(Refusal::syntax(at));
+        return Ok(Some(Refusal::syntax(at)));
     };
     let name = declaration.name.as_str();
     let property = if is_unbuilt_property(name) {
@@ -98,10 +102,8 @@ fn declaration_refusal(at: u32, declaration: &Option<Declaration>) -> Option<Ref
     } else {
         None
     };
-    sooner_of(
-        property,
-        sought_in(declaration.value.as_slice(), sought_for(name)),
-    )
+    let value = sought_in(alloc, declaration.value.as_slice(), sought_for(name))?;
+    Ok(sooner_of(property, value))
 }
 
 /// The declaration that an item of a block spells which is no rule.
@@ -119,7 +121,7 @@ fn read_plain<'a>(
         });
     };
     let value = read_declaration(alloc, item)?;
-    let refusal = declaration_refusal(place_of(first), &value);
+    let refusal = declaration_refusal(alloc, place_of(first), &value)?;
     Ok(Judged { value, refusal })
 }
 
@@ -186,7 +188,8 @@ fn read_block<'a>(
     let mut refusal = None;
     let mut from = 0;
     while from <= block.len() {
-        let end = end_of_cut(block, from, item_mark(&block[from..]));
+        let mark = item_mark(alloc, &block[from..])?;
+        let end = end_of_cut(block, from, mark);
         let item = read_item(alloc, &block[from..end], mark_at(block, end))?;
         refusal = sooner_of(refusal, item.refusal);
         let Judged { value, refusal: _ } = item;
@@ -224,13 +227,14 @@ fn read_prelude<'a>(
     ensures refusal { IfOk result (λ read. read.refusal ≡ first_refusal (prelude_refusals prelude.now end)) }
     ensures value { IfOk result (λ read. read.refusal ≡ None → prelude_of prelude.now ≡ Some read.value) }
 {
-    if let Some(refusal) = sought_in(prelude, Sought::ColonOrBracket) {
+    let unread = sought_in(alloc, prelude, Sought::ColonOrBracket)?;
+    if let Some(refusal) = unread {
         return Ok(Judged {
             value: List::new(alloc),
             refusal: Some(refusal),
         });
     }
-    let nested = sought_in(prelude, Sought::Ampersand);
+    let nested = sought_in(alloc, prelude, Sought::Ampersand)?;
     match read_list(alloc, prelude, end) {
         Ok(value) => Ok(Judged {
             value,

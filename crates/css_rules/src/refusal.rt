@@ -1,11 +1,12 @@
-ghost use Rattle.std.specs.Prelude.{◌≡◌, ◌∷◌, [], find};
+ghost use Rattle.std.specs.Prelude.{◌≡◌, ◌∷◌, [], IfOk, find};
 ghost use Rattle.css_tokens.specs.declared.component.Component.{Block as the_block};
 ghost use Rattle.css_tokens.specs.Trees.{pieces_of, pieces_all};
 ghost use Rattle.css_rules.specs.Refusals.{sooner_of, is_sought, sought_in, first_refusal, leads, rank, sooner, syntax, unbuilt, is_colon_or_bracket, is_ampersand, is_revert_layer, is_url};
 ghost use Rattle.std.specs.Option.{option_map};
 
 use crate::parts::is_keyword;
-use css_tokens::{Block, Component, Kind, Token};
+use css_tokens::{Block, Component, Kind, OutOfMemory, Token};
+use std::alloc::Global;
 
 /// Why a sheet is refused. Of two causes at one place the one that stands first here is named.
 #[derive(Clone, Copy, Debug)]
@@ -33,7 +34,7 @@ pub enum Sought {
     Ampersand,
     /// The keyword `revert-layer`, in a value.
     RevertLayer,
-    /// This keyword, a Url token or the Function `url(`, in a value.
+    /// This keyword, a Url token or a Function named `url`, in a value.
     RevertLayerOrUrl,
 }
 
@@ -106,22 +107,22 @@ fn is_colon_or_bracket(token: &Token) -> bool
     }
 }
 
-fn is_revert_layer(token: &Token) -> bool
-    ensures { result ≡ is_revert_layer token.now.kind token.now.text }
+fn is_revert_layer(alloc: Global, token: &Token) -> Result<bool, OutOfMemory>
+    ensures { IfOk result (λ is. is ≡ is_revert_layer token.now.kind token.now.text) }
 {
     match token.kind {
-        Kind::Ident => is_keyword(token.text, "revert-layer"),
-        _ => false,
+        Kind::Ident => is_keyword(alloc, token, "revert-layer"),
+        _ => Ok(false),
     }
 }
 
-fn is_url(token: &Token) -> bool
-    ensures { result ≡ is_url token.now.kind token.now.text }
+fn is_url(alloc: Global, token: &Token) -> Result<bool, OutOfMemory>
+    ensures { IfOk result (λ is. is ≡ is_url token.now.kind token.now.text) }
 {
     match token.kind {
-        Kind::Url => true,
-        Kind::Function => is_keyword(token.text, "url("),
-        _ => false,
+        Kind::Url => Ok(true),
+        Kind::Function => is_keyword(alloc, token, "url"),
+        _ => Ok(false),
     }
 }
 
@@ -136,65 +137,81 @@ fn is_ampersand(token: &Token) -> bool
 
 impl Sought {
     /// The place of the token where it is one of these.
-    fn at(self, token: &Token) -> Option<u32>
-        ensures { result ≡ option_map (λ token. token.at) (find (is_sought self) (token.now ∷ [])) }
+    fn at(self, alloc: Global, token: &Token) -> Result<Option<u32>, OutOfMemory>
+        ensures { IfOk result (λ at. at ≡ option_map (λ token. token.at) (find (is_sought self) (token.now ∷ []))) }
     {
-        if self.is(token) { Some(token.at) } else { None }
+        if self.is(alloc, token)? {
+            Ok(Some(token.at))
+        } else {
+            Ok(None)
+        }
     }
 
-    fn is(self, token: &Token) -> bool
-        ensures { result ≡ is_sought self token.now }
+    fn is(self, alloc: Global, token: &Token) -> Result<bool, OutOfMemory>
+        ensures { IfOk result (λ is. is ≡ is_sought self token.now) }
     {
         match self {
-            Sought::ColonOrBracket => is_colon_or_bracket(token),
-            Sought::Ampersand => is_ampersand(token),
-            Sought::RevertLayer => is_revert_layer(token),
-            Sought::RevertLayerOrUrl => is_revert_layer(token) || is_url(token),
+            Sought::ColonOrBracket => Ok(is_colon_or_bracket(token)),
+            Sought::Ampersand => Ok(is_ampersand(token)),
+            Sought::RevertLayer => is_revert_layer(alloc, token),
+            Sought::RevertLayerOrUrl => Ok(is_revert_layer(alloc, token)? || is_url(alloc, token)?),
         }
     }
 }
 
 /// Where the first such token stands in a component, at any depth.
 #[cycle(sought)]
-fn sought_in_one(component: &Component, sought: Sought) -> Option<u32>
-    ensures { result ≡ option_map (λ token. token.at) (find (is_sought sought) (pieces_of component.now)) }
+fn sought_in_one(
+    alloc: Global,
+    component: &Component,
+    sought: Sought,
+) -> Result<Option<u32>, OutOfMemory>
+    ensures { IfOk result (λ at. at ≡ option_map (λ token. token.at) (find (is_sought sought) (pieces_of component.now))) }
 {
     match component {
-        Component::Single(token) => sought.at(token),
-        Component::Block(block) => sought_in_block(block, sought),
+        Component::Single(token) => sought.at(alloc, token),
+        Component::Block(block) => sought_in_block(alloc, block, sought),
     }
 }
 
 #[cycle(sought)]
-fn sought_in_block(block: &Block, sought: Sought) -> Option<u32>
-    ensures { result ≡ option_map (λ token. token.at) (find (is_sought sought) (pieces_of (the_block block.now))) }
+fn sought_in_block(alloc: Global, block: &Block, sought: Sought) -> Result<Option<u32>, OutOfMemory>
+    ensures { IfOk result (λ at. at ≡ option_map (λ token. token.at) (find (is_sought sought) (pieces_of (the_block block.now)))) }
 {
-    match sought.at(&block.opening) {
-        Some(at) => Some(at),
-        None => sought_in_all(block.items.as_slice(), sought),
+    match sought.at(alloc, &block.opening)? {
+        Some(at) => Ok(Some(at)),
+        None => sought_in_all(alloc, block.items.as_slice(), sought),
     }
 }
 
 /// Where the first such token stands in a list of components, at any depth.
 #[cycle(sought)]
-fn sought_in_all(components: &[Component], sought: Sought) -> Option<u32>
-    ensures { result ≡ option_map (λ token. token.at) (find (is_sought sought) (pieces_all components.now)) }
+fn sought_in_all(
+    alloc: Global,
+    components: &[Component],
+    sought: Sought,
+) -> Result<Option<u32>, OutOfMemory>
+    ensures { IfOk result (λ at. at ≡ option_map (λ token. token.at) (find (is_sought sought) (pieces_all components.now))) }
 {
     for component in components {
-        match sought_in_one(component, sought) {
-            Some(at) => return Some(at),
+        match sought_in_one(alloc, component, sought)? {
+            Some(at) => return Ok(Some(at)),
             None => {}
         }
     }
-    None
+    Ok(None)
 }
 
 /// The refusal of a construct that is not built yet, where one of its tokens stands in these components.
-pub fn sought_in(components: &[Component], sought: Sought) -> Option<Refusal>
-    ensures { result ≡ first_refusal (sought_in sought components.now) }
+pub fn sought_in(
+    alloc: Global,
+    components: &[Component],
+    sought: Sought,
+) -> Result<Option<Refusal>, OutOfMemory>
+    ensures { IfOk result (λ refusal. refusal ≡ first_refusal (sought_in sought components.now)) }
 {
-    match sought_in_all(components, sought) {
-        Some(at) => Some(Refusal::unbuilt(at)),
-        None => None,
+    match sought_in_all(alloc, components, sought)? {
+        Some(at) => Ok(Some(Refusal::unbuilt(at))),
+        None => Ok(None),
     }
 }

@@ -13,7 +13,8 @@ ghost use Rattle.std.specs.List.{list_all};
 ghost use Rattle.std.specs.Option.{option_map};
 ghost use Rattle.std.specs.Prelude.{◌≡◌, List, Some, IsTrue, map};
 
-/// The sheet that components spell is printable, where they are well formed and their Idents spell Idents: each run is of one
+/// The sheet that components spell is printable, where they are well formed and their tokens are in UTF-8, without control
+/// characters, and hold names where they are Idents or ids: each run is of one
 /// style rule, with selectors that have a spelling and no `&`, and each of its declarations, of which there is at least one,
 /// is written as it was read. No rule of it is nested, so that it prints as its runs do.
 pub fn sheets_are_printable()

@@ -1,13 +1,12 @@
 -- Over all words and files there is one answer that stands first.
 use Rattle.std.proofs.Common.{◌≡◌, ℕ, ◌+◌, List, [], ◌∷◌, Option, Some, None, MatchOption, is_none, unwrap_or, if◌then◌else◌, IsTrue, Bool, true, false, length, map, refl, ap, sym, ◌∙◌, ◌⊎◌, inl, inr, subst, arith, nat_lt}
-use Rattle.std.specs.List.{position}
 use Rattle.css_outside.specs.Names.{Names}
 use Rattle.css_tokens.specs.declared.component.Component.{Component}
 use Rattle.css_tokens.specs.declared.pairing.ComponentFault.{ComponentFault}
 use Rattle.css_tokens.specs.declared.pairing.ComponentFault.TheVariants as fault
 use Rattle.css_tokens.specs.Pairing.{IsPaired, IsBracketFault}
 use Rattle.css_tokens.specs.Piece.{Piece, Word, word_of}
-use Rattle.css_tokens.specs.Tokens.{Reads, IsPlaced, StopsAt}
+use Rattle.css_tokens.specs.Tokens.{Reads, IsPlaced, StopsAt, mark_length}
 use Rattle.css_tokens.specs.Trees.{pieces_all, all_formed}
 use Rattle.css_rules.specs.declared.refusal.Refusal.{Refusal}
 use Rattle.css_rules.specs.declared.refusal.Cause.{Cause}
@@ -19,7 +18,7 @@ use Rattle.cascade_spec.specs.declared.finding.Code.TheVariants.{Syntax, Depth, 
 use Rattle.cascade_spec.specs.declared.finding.Finding.{Finding}
 use Rattle.cascade_spec.specs.declared.finding.LimitKind.TheVariants.{L2}
 use Rattle.csslower.specs.Answers.{IsLong, IsFirst, IsFine, IsFirstOfSources, First, HasFirst}
-use Rattle.csslower.specs.Findings.{is_unbuilt, HasTokens, HasComponents, IsReadable, IsAccepted, HasFinding, HasReadingFinding}
+use Rattle.csslower.specs.Findings.{HasTokens, HasComponents, IsAccepted, HasFinding}
 use Rattle.csslower.specs.Words.{entry_of, is_scoped}
 use Rattle.csslower.specs.declared.status.Status.{Status}
 use Rattle.csslower.specs.declared.status.Status.TheVariants.{Done, Refused, Usage, ReadFault, WriteFault, Memory, Limit}
@@ -58,7 +57,7 @@ some_refusal (r ∷ rs) = inr (named (first_refusal rs))
     named (Some s) = (sooner r s, refl)
 
 abbrev HasSomeFinding : List ℕ → Type 0
-HasSomeFinding bytes = (code : Code) × (offset : ℕ) × HasReadingFinding bytes code offset
+HasSomeFinding bytes = (code : Code) × (offset : ℕ) × HasFinding bytes code offset
 
 -- the answer that stands first about the sources, as it is about the entry's file
 abbrev IsFirstOfFile : List ℕ → Option (List ℕ) → Status → Type 0
@@ -94,58 +93,47 @@ FirstOfEntry entry files answer = MatchOption (if is_none entry then Some Words 
 
 module _ (laws : AnswerLaws) where
   refused_by : (bytes : List ℕ) (cs : List Component) → HasComponents bytes cs → (cause : Cause) (at : ℕ) → first_refusal (sheet_refusals cs) ≡ Some (record { at = at; cause = cause }) → HasSomeFinding bytes
+  unfolding HasFinding
   refused_by bytes cs has causes.Syntax at named = (Syntax, at, inr (inr (cs, has, named)))
   refused_by bytes cs has causes.Unbuilt at named = (Unbuilt, at, inr (inr (cs, has, named)))
 
-  of_components : (bytes : List ℕ) (cs : List Component) → HasComponents bytes cs → IsReadable bytes ⊎ HasSomeFinding bytes
+  of_components : (bytes : List ℕ) (cs : List Component) → HasComponents bytes cs → IsAccepted bytes ⊎ HasSomeFinding bytes
+  unfolding IsAccepted
   of_components bytes cs has =
       elim (some_refusal (sheet_refusals cs)) [
         | inl none ↦ inl (cs, has, none)
         | inr some ↦ inr (refused_by bytes cs has some.0.cause some.0.at some.1)
       ]
 
-  of_paired : (bytes : List ℕ) (ts : List Piece) → HasTokens bytes ts → IsPaired ts → IsReadable bytes ⊎ HasSomeFinding bytes
+  of_paired : (bytes : List ℕ) (ts : List Piece) → HasTokens bytes ts → IsPaired ts → IsAccepted bytes ⊎ HasSomeFinding bytes
   of_paired bytes ts has paired =
       let made = laws.components ts paired in
       of_components bytes made.0 (record { tokens = subst (HasTokens bytes) (sym made.1) has; formed = made.2; paired = subst IsPaired (sym made.1) paired })
 
   of_fault : (bytes : List ℕ) (ts : List Piece) → HasTokens bytes ts → (f : ComponentFault) → IsBracketFault ts (length bytes) f → HasSomeFinding bytes
+  unfolding HasFinding
   of_fault bytes ts has (fault.Syntax at) is = (Syntax, at, inr (inl (ts, has, is)))
   of_fault bytes ts has (fault.Depth at) is = (Depth, at, inr (inl (ts, has, is)))
   of_fault bytes ts has fault.Memory is = absurd is
 
-  of_tokens : (bytes : List ℕ) (ts : List Piece) → HasTokens bytes ts → IsReadable bytes ⊎ HasSomeFinding bytes
+  of_tokens : (bytes : List ℕ) (ts : List Piece) → HasTokens bytes ts → IsAccepted bytes ⊎ HasSomeFinding bytes
   of_tokens bytes ts has =
       elim (laws.paired ts (length bytes)) [
         | inl paired ↦ of_paired bytes ts has paired
         | inr fault ↦ inr (of_fault bytes ts has fault.0 fault.1)
       ]
 
-  of_words : (bytes : List ℕ) (ws : List Word) → Reads bytes ws → IsReadable bytes ⊎ HasSomeFinding bytes
-  of_words bytes ws reads = of_tokens bytes (placed_from 0 ws) (record { read = subst (Reads bytes) (sym (words_of_placed 0 ws)) reads; placed = placed_are_placed 0 ws })
+  of_words : (bytes : List ℕ) (ws : List Word) → Reads bytes ws → IsAccepted bytes ⊎ HasSomeFinding bytes
+  of_words bytes ws reads = of_tokens bytes (placed_from (mark_length bytes) ws) (record { read = subst (Reads bytes) (sym (words_of_placed (mark_length bytes) ws)) reads; placed = placed_are_placed (mark_length bytes) ws })
 
   -- a text is readable, or something stands against it
-  of_text : (bytes : List ℕ) → IsReadable bytes ⊎ HasSomeFinding bytes
+  of_text : (bytes : List ℕ) → IsAccepted bytes ⊎ HasSomeFinding bytes
+  unfolding HasFinding
   of_text bytes =
       elim (laws.read bytes) [
         | inl words ↦ of_words bytes words.0 words.1
         | inr stop ↦ inr (Syntax, stop.0, inl (refl, stop.1))
       ]
-
-  abbrev Stands : List ℕ → Option ℕ → Code → ℕ → Type 0
-  Stands bytes found code offset = MatchOption found (HasReadingFinding bytes code offset) (λ place. (code ≡ Unbuilt) × (offset ≡ place))
-
-  of_unbuilt : (bytes : List ℕ) (found : Option ℕ) → ((found ≡ None) × IsReadable bytes) ⊎ ((code : Code) × (offset : ℕ) × Stands bytes found code offset)
-  of_unbuilt bytes (Some place) = inr (Unbuilt, place, (refl, refl))
-  of_unbuilt bytes None =
-      elim (of_text bytes) [
-        | inl fine ↦ inl (refl, fine)
-        | inr some ↦ inr some
-      ]
-
-  accepted_or_not : (bytes : List ℕ) → IsAccepted bytes ⊎ ((code : Code) × (offset : ℕ) × HasFinding bytes code offset)
-  unfolding HasFinding IsAccepted
-  accepted_or_not bytes = of_unbuilt bytes (position is_unbuilt bytes)
 
   abbrev finding_at : ℕ → ℕ → Code → Finding
   finding_at file offset code = record { place = record { file = file; offset = offset }; code = code }
@@ -157,7 +145,7 @@ module _ (laws : AnswerLaws) where
   of_short : (path bytes : List ℕ) (scoped : Bool) → is_scoped path ≡ scoped → (IsLong (Some bytes) → ⊥) → (answer : Status) × IsFirstOfFile path (Some bytes) answer
   of_short path bytes true is short = (Refused (finding_of 0 Unbuilt), (short, (refl, ((λ _. (refl, refl)), λ not. absurd (cc (is, not))))))
   of_short path bytes false is short =
-      elim (accepted_or_not bytes) [
+      elim (of_text bytes) [
         | inl fine ↦ (Done, (short, (is, fine)))
         | inr some ↦ (Refused (finding_of some.1 some.0), (short, (refl, ((λ yes. absurd (cc (is, yes))), λ _. some.2))))
       ]

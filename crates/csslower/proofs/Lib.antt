@@ -1,8 +1,6 @@
 mod Parts
 mod Says
 mod Loads
-mod Plain
-mod TextFaults
 mod OneFinding
 mod FirstAnswers
 mod Alike

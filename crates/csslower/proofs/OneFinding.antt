@@ -1,20 +1,19 @@
 -- At most one finding stands against a text, and none where the text is accepted.
 use Rattle.std.proofs.Common.{◌≡◌, ℕ, ◌+◌, List, [], ◌∷◌, Option, Some, None, MatchOption, length, map, refl, ap, sym, ◌∙◌, inl, inr, subst, IsTrue}
-use Rattle.std.specs.List.{position}
 use Rattle.css_tokens.specs.declared.component.Component.{Component}
 use Rattle.css_tokens.specs.declared.kind.Kind.{Kind}
 use Rattle.css_tokens.specs.declared.pairing.ComponentFault.{ComponentFault}
 use Rattle.css_tokens.specs.declared.pairing.ComponentFault.TheVariants as fault
 use Rattle.css_tokens.specs.Pairing.{IsPaired, IsBracketFault}
 use Rattle.css_tokens.specs.Piece.{Piece, Word, word_of}
-use Rattle.css_tokens.specs.Tokens.{Reads, IsPlaced, StopsAt}
+use Rattle.css_tokens.specs.Tokens.{Reads, IsPlaced, StopsAt, mark_length}
 use Rattle.css_tokens.specs.Trees.{pieces_all, all_formed}
 use Rattle.css_rules.specs.declared.refusal.Refusal.{Refusal}
 use Rattle.css_rules.specs.Refusals.{first_refusal, syntax, unbuilt}
 use Rattle.css_rules.specs.Sheets.{sheet_refusals}
 use Rattle.cascade_spec.specs.declared.finding.Code.{Code}
 use Rattle.cascade_spec.specs.declared.finding.Code.TheVariants.{Syntax, Depth, Missing, Unbuilt}
-use Rattle.csslower.specs.Findings.{is_unbuilt, HasTokens, HasComponents, IsUnpaired, IsRefused, HasReadingFinding, HasFinding, IsReadable, IsAccepted}
+use Rattle.csslower.specs.Findings.{HasTokens, HasComponents, IsUnpaired, IsRefused, HasFinding, IsAccepted}
 
 -- what the laws of tokens, brackets and components say
 pub record ReadingLaws : Type 0 where
@@ -72,7 +71,7 @@ refused_none cs Missing o none a = a
 
 module _ (laws : ReadingLaws) (bytes : List ℕ) where
   tokens_one : (a b : List Piece) → HasTokens bytes a → HasTokens bytes b → a ≡ b
-  tokens_one a b p q = placed_one 0 a b p.placed q.placed (laws.one bytes (map word_of a) (map word_of b) p.read q.read)
+  tokens_one a b p q = placed_one (mark_length bytes) a b p.placed q.placed (laws.one bytes (map word_of a) (map word_of b) p.read q.read)
 
   components_one : (a b : List Component) → HasComponents bytes a → HasComponents bytes b → a ≡ b
   components_one a b p q = laws.pairing a b (tokens_one (pieces_all a) (pieces_all b) p.tokens q.tokens) p.formed q.formed
@@ -104,34 +103,20 @@ module _ (laws : ReadingLaws) (bytes : List ℕ) where
   fault_or_components : (ts : List Piece) (cs : List Component) (c : Code) (o : ℕ) → HasTokens bytes ts → IsUnpaired ts (length bytes) c o → HasComponents bytes cs → ⊥
   fault_or_components ts cs c o p unpaired q = unpaired_none (pieces_all cs) c o q.paired (subst (λ us. IsUnpaired us (length bytes) c o) (tokens_one ts (pieces_all cs) p q.tokens) unpaired)
 
-  reading_one : (c d : Code) (o p : ℕ) → HasReadingFinding bytes c o → HasReadingFinding bytes d p → IsSame c d o p
-  reading_one c d o p (inl a) (inl b) = (a.0 ∙ sym b.0, laws.place bytes o p a.1 b.1)
-  reading_one c d o p (inl a) (inr (inl b)) = absurd (stop_none b.0 o b.1 a.1)
-  reading_one c d o p (inl a) (inr (inr b)) = absurd (stop_none (pieces_all b.0) o b.1.tokens a.1)
-  reading_one c d o p (inr (inl a)) (inl b) = absurd (stop_none a.0 p a.1 b.1)
-  reading_one c d o p (inr (inr a)) (inl b) = absurd (stop_none (pieces_all a.0) p a.1.tokens b.1)
-  reading_one c d o p (inr (inl a)) (inr (inl b)) = unpaired_one b.0 c d o p (subst (λ us. IsUnpaired us (length bytes) c o) (tokens_one a.0 b.0 a.1 b.1) a.2) b.2
-  reading_one c d o p (inr (inl a)) (inr (inr b)) = absurd (fault_or_components a.0 b.0 c o a.1 a.2 b.1)
-  reading_one c d o p (inr (inr a)) (inr (inl b)) = absurd (fault_or_components b.0 a.0 d p b.1 b.2 a.1)
-  reading_one c d o p (inr (inr a)) (inr (inr b)) = refused_one b.0 c d o p (subst (λ cs. IsRefused cs c o) (components_one a.0 b.0 a.1 b.1) a.2) b.2
-
-  reading_none : (c : Code) (o : ℕ) → IsReadable bytes → HasReadingFinding bytes c o → ⊥
-  reading_none c o r (inl a) = stop_none (pieces_all r.0) o r.1.tokens a.1
-  reading_none c o r (inr (inl a)) = fault_or_components a.0 r.0 c o a.1 a.2 r.1
-  reading_none c o r (inr (inr a)) = refused_none r.0 c o r.2 (subst (λ cs. IsRefused cs c o) (components_one a.0 r.0 a.1 r.1) a.2)
-
-  -- what stands against the text, by its first byte that waits for a later stage
-  abbrev Stands : Option ℕ → Code → ℕ → Type 0
-  Stands found code offset = MatchOption found (HasReadingFinding bytes code offset) (λ place. (code ≡ Unbuilt) × (offset ≡ place))
-
-  stands_one : (found : Option ℕ) (c d : Code) (o p : ℕ) → Stands found c o → Stands found d p → IsSame c d o p
-  stands_one None c d o p a b = reading_one c d o p a b
-  stands_one (Some place) c d o p a b = (a.0 ∙ sym b.0, a.1 ∙ sym b.1)
-
   pub finding_one : (c d : Code) (o p : ℕ) → HasFinding bytes c o → HasFinding bytes d p → (c ≡ d) × (o ≡ p)
   unfolding HasFinding
-  finding_one c d o p a b = stands_one (position is_unbuilt bytes) c d o p a b
+  finding_one c d o p (inl a) (inl b) = (a.0 ∙ sym b.0, laws.place bytes o p a.1 b.1)
+  finding_one c d o p (inl a) (inr (inl b)) = absurd (stop_none b.0 o b.1 a.1)
+  finding_one c d o p (inl a) (inr (inr b)) = absurd (stop_none (pieces_all b.0) o b.1.tokens a.1)
+  finding_one c d o p (inr (inl a)) (inl b) = absurd (stop_none a.0 p a.1 b.1)
+  finding_one c d o p (inr (inr a)) (inl b) = absurd (stop_none (pieces_all a.0) p a.1.tokens b.1)
+  finding_one c d o p (inr (inl a)) (inr (inl b)) = unpaired_one b.0 c d o p (subst (λ us. IsUnpaired us (length bytes) c o) (tokens_one a.0 b.0 a.1 b.1) a.2) b.2
+  finding_one c d o p (inr (inl a)) (inr (inr b)) = absurd (fault_or_components a.0 b.0 c o a.1 a.2 b.1)
+  finding_one c d o p (inr (inr a)) (inr (inl b)) = absurd (fault_or_components b.0 a.0 d p b.1 b.2 a.1)
+  finding_one c d o p (inr (inr a)) (inr (inr b)) = refused_one b.0 c d o p (subst (λ cs. IsRefused cs c o) (components_one a.0 b.0 a.1 b.1) a.2) b.2
 
   pub finding_none : (c : Code) (o : ℕ) → IsAccepted bytes → HasFinding bytes c o → ⊥
   unfolding HasFinding IsAccepted
-  finding_none c o fine a = reading_none c o fine.1 (subst (λ found. Stands found c o) fine.0 a)
+  finding_none c o r (inl a) = stop_none (pieces_all r.0) o r.1.tokens a.1
+  finding_none c o r (inr (inl a)) = fault_or_components a.0 r.0 c o a.1 a.2 r.1
+  finding_none c o r (inr (inr a)) = refused_none r.0 c o r.2 (subst (λ cs. IsRefused cs c o) (components_one a.0 r.0 a.1 r.1) a.2)

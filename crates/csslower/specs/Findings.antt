@@ -1,26 +1,21 @@
--- What stands against a file's text. What comes first of these is named: a byte that waits for a later stage, where
--- reading stops, a bracket that is not paired, what the sheet is refused for.
-use Rattle.std.specs.Prelude.{ℕ, ◌≡◌, ◌⊎◌, List, [], length, map, IsTrue, Bool, ◌&&◌, not, Some, None, MatchOption, nat_lt, nat_eq}
-use Rattle.std.specs.List.{position}
+-- What stands against a file's text. What comes first of these is named: where reading stops, a bracket that is not
+-- paired, what the sheet is refused for.
+use Rattle.std.specs.Prelude.{ℕ, ◌≡◌, ◌⊎◌, List, [], length, map, IsTrue, Some}
 use Rattle.css_tokens.specs.declared.component.Component.{Component}
 use Rattle.css_tokens.specs.declared.pairing.ComponentFault.TheVariants as fault
 use Rattle.css_tokens.specs.Pairing.{IsPaired, IsBracketFault}
 use Rattle.css_tokens.specs.Piece.{Piece, word_of}
-use Rattle.css_tokens.specs.Tokens.{Reads, IsPlaced, StopsAt}
+use Rattle.css_tokens.specs.Tokens.{Reads, IsPlaced, StopsAt, mark_length}
 use Rattle.css_tokens.specs.Trees.{pieces_all, all_formed}
 use Rattle.css_rules.specs.Refusals.{first_refusal, syntax, unbuilt}
 use Rattle.css_rules.specs.Sheets.{sheet_refusals}
 use Rattle.cascade_spec.specs.declared.finding.Code.{Code}
 use Rattle.cascade_spec.specs.declared.finding.Code.TheVariants.{Syntax, Depth, Missing, Unbuilt}
 
--- bytes that wait for a later stage: those from 80 hexadecimal on, and `\`
-abbrev pub is_unbuilt : ℕ → Bool
-is_unbuilt b = not (nat_lt b 128 && not (nat_eq b 92))
-
--- the tokens of the text, each in its place (CSS Syntax 3, section 4)
+-- the tokens of the text, each in its place, behind a byte order mark (CSS Syntax 3, section 4)
 pub record HasTokens (bytes : List ℕ) (tokens : List Piece) : Type 0 where
   pub read : Reads bytes (map word_of tokens)
-  pub placed : IsPlaced 0 tokens
+  pub placed : IsPlaced (mark_length bytes) tokens
 
 -- the component values of the text, their brackets paired (CSS Syntax 3, section 5)
 pub record HasComponents (bytes : List ℕ) (components : List Component) : Type 0 where
@@ -28,7 +23,7 @@ pub record HasComponents (bytes : List ℕ) (components : List Component) : Type
   pub formed : IsTrue (all_formed components)
   pub paired : IsPaired (pieces_all components)
 
--- no token that is read begins there, or no text may hold the character
+-- no token that is read begins there, or no text may hold what stands there
 abbrev pub HasStop : List ℕ → Code → ℕ → Type 0
 HasStop bytes code offset = (code ≡ Syntax) × StopsAt bytes offset
 
@@ -54,21 +49,10 @@ IsRefused components Missing offset = ⊥
 abbrev pub HasRefusal : List ℕ → Code → ℕ → Type 0
 HasRefusal bytes code offset = (components : List Component) × HasComponents bytes components × IsRefused components code offset
 
--- what stands first against a text without bytes that wait for a later stage
-abbrev pub HasReadingFinding : List ℕ → Code → ℕ → Type 0
-HasReadingFinding bytes code offset = HasStop bytes code offset ⊎ (HasBracketFault bytes code offset ⊎ HasRefusal bytes code offset)
-
 -- the text is refused first at this place, for this cause
 unfoldable pub HasFinding : List ℕ → Code → ℕ → Type 0
-HasFinding bytes code offset =
-    MatchOption (position is_unbuilt bytes)
-    (HasReadingFinding bytes code offset)
-    (λ place. (code ≡ Unbuilt) × (offset ≡ place))
+HasFinding bytes code offset = HasStop bytes code offset ⊎ (HasBracketFault bytes code offset ⊎ HasRefusal bytes code offset)
 
--- the text reads as a sheet that is not refused
-abbrev pub IsReadable : List ℕ → Type 0
-IsReadable bytes = (components : List Component) × HasComponents bytes components × (sheet_refusals components ≡ [])
-
--- nothing stands against the text
+-- nothing stands against the text: it reads as a sheet that is not refused
 unfoldable pub IsAccepted : List ℕ → Type 0
-IsAccepted bytes = (position is_unbuilt bytes ≡ None) × IsReadable bytes
+IsAccepted bytes = (components : List Component) × HasComponents bytes components × (sheet_refusals components ≡ [])

@@ -1,8 +1,7 @@
-ghost use Rattle.std.specs.Prelude.{◌≡◌, ◌≤◌, [], Some, length, IsTrue, IfOk, IfErr};
-ghost use Rattle.css_tokens.specs.Tokens.{is_plain};
+ghost use Rattle.std.specs.Prelude.{◌≡◌, ◌≤◌, [], Some, length, IfOk, IfErr};
 ghost use Rattle.css_rules.specs.Sheets.{sheet_of, sheet_refusals};
 ghost use Rattle.csslower.specs.Findings.{HasTokens, HasComponents};
-ghost use Rattle.csslower.specs.Private.TextFaults.{IsReadingFault, IsWithin};
+ghost use Rattle.csslower.specs.Private.TextFaults.{IsTextFault, IsWithin};
 
 use crate::text_fault::TextFault;
 use cascade_spec::Code;
@@ -11,11 +10,11 @@ use css_tokens::{Component, ComponentFault, List, Token, TokenFault, components,
 use std::alloc::Global;
 
 /// The tokens of a file's text.
+#[tactic(auto, unfolding(crate::specs::Findings::HasFinding))]
 fn text_tokens<'a>(alloc: Global, text: &'a [u8]) -> Result<List<Token<'a>>, TextFault>
     requires short { length text.now ≤ 4194304 }
-    requires plain { IsTrue (is_plain text.now) }
     ensures read { IfOk result (λ ts. HasTokens text.now ts) }
-    ensures refused { IfErr result (λ fault. IsReadingFault text.now fault) }
+    ensures refused { IfErr result (λ fault. IsTextFault text.now fault) }
     ensures place { IfErr result (λ fault. IsWithin text.now fault) }
 {
     css_tokens::one_reading();
@@ -30,14 +29,14 @@ fn text_tokens<'a>(alloc: Global, text: &'a [u8]) -> Result<List<Token<'a>>, Tex
 }
 
 /// The component values of a file's text.
+#[tactic(auto, unfolding(crate::specs::Findings::HasFinding))]
 pub(crate) fn text_components<'a>(
     alloc: Global,
     text: &'a [u8],
 ) -> Result<List<Component<'a>>, TextFault>
     requires short { length text.now ≤ 4194304 }
-    requires plain { IsTrue (is_plain text.now) }
     ensures read { IfOk result (λ cs. HasComponents text.now cs) }
-    ensures refused { IfErr result (λ fault. IsReadingFault text.now fault) }
+    ensures refused { IfErr result (λ fault. IsTextFault text.now fault) }
     ensures place { IfErr result (λ fault. IsWithin text.now fault) }
 {
     let tokens = text_tokens(alloc, text)?;
@@ -57,6 +56,7 @@ pub(crate) fn text_components<'a>(
 }
 
 /// The sheet of a file's text, whose components are given.
+#[tactic(auto, unfolding(crate::specs::Findings::HasFinding))]
 pub(crate) fn text_sheet<'a>(
     alloc: Global,
     text: &[u8],
@@ -66,7 +66,7 @@ pub(crate) fn text_sheet<'a>(
     requires read { HasComponents text.now components.now }
     ensures found { IfOk result (λ sheet. sheet_of components.now ≡ Some sheet) }
     ensures faultless { IfOk result (λ _. sheet_refusals components.now ≡ []) }
-    ensures refused { IfErr result (λ fault. IsReadingFault text.now fault) }
+    ensures refused { IfErr result (λ fault. IsTextFault text.now fault) }
     ensures place { IfErr result (λ fault. IsWithin text.now fault) }
 {
     css_tokens::places_rise_in_a_text();

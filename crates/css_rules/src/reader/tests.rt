@@ -1,14 +1,14 @@
 use crate::selector::Selector;
 use crate::testing::{large_list, repeated};
 use crate::{Declaration, Item, RuleFault, Sheet, read_sheet};
-use css_tokens::{Component, components, is_plain_text, places_rise_in_a_text, tokens};
+use css_tokens::{Component, components, places_rise_in_a_text, tokens};
 use std::alloc::Global;
 use std::test::Fail;
 
 /// The sheet of a text whose brackets pair.
 fn read(alloc: Global, text: &str) -> Result<Sheet<'_>, RuleFault> {
     let bytes = text.as_bytes();
-    if bytes.len() > 1_000_000 || !is_plain_text(bytes) {
+    if bytes.len() > 1_000_000 {
         return Err(RuleFault::Memory);
     }
     let end = bytes.len() as u32;
@@ -74,6 +74,22 @@ fn reads_importance(rt: HostRuntime) -> Result<(), Fail> {
     Ok(())
 }
 
+#[test]
+fn reads_escaped_names(rt: HostRuntime) -> Result<(), Fail> {
+    let sheet = read(rt.alloc(), "p{c\\6fLor:red;\\2d-A:{};é:0!\\69mportant}")?;
+    match first_run(&sheet) {
+        [first, second, third] => {
+            assert_eq!(rt; first.name.as_str(), "color");
+            assert_eq!(rt; second.name.as_str(), "--A");
+            assert_eq!(rt; third.name.as_str(), "é");
+            assert_eq!(rt; third.value.len(), 1);
+            assert!(rt; third.important);
+        }
+        _ => assert!(rt; false),
+    }
+    Ok(())
+}
+
 /// Whether the fault of a text is `Unbuilt`, and its place.
 fn fault(alloc: Global, text: &str) -> Option<(bool, u32)> {
     match read(alloc, text) {
@@ -91,6 +107,8 @@ fn names_the_least_place(rt: HostRuntime) {
         ("p{background:url(x.png)}", true, 13),
         ("p{margin-inline:0}", true, 2),
         ("p{color:revert-layer}", true, 8),
+        ("p{color:revert-\\6c ayer}", true, 8),
+        ("p{background:u\\72l('x.png')}", true, 13),
         ("p{a{}}", true, 2),
         ("a,,&{}", false, 2),
         ("&,,a{}", true, 0),

@@ -13,7 +13,7 @@ ghost use Rattle.css_rules.specs.declared.selector.Selector.{Selector};
 ghost use Rattle.std.specs.Option.{option_map};
 ghost use Rattle.std.specs.Prelude.{◌≡◌, ◌≢◌, ◌++◌, ℕ, List, [], Some, None, codes, map, IsTrue};
 
-use css_tokens::{names_spell, names_stay, plain_name, words_again};
+use css_tokens::{names_spell, names_stay, words_again};
 
 /// The components that a list's text is made of spell that text, are well formed, and are read as that list again, also
 /// where they stand at other places; and what a list is read as can be written so.
@@ -24,7 +24,7 @@ pub fn selectors_are_read_again()
     ensures same { (bs : List BareSelector) (cs : List Component) → IsTrue (is_readable_list bs) → words_all cs ≡ words_all (list_again bs) → option_map bare_list (list_of cs) ≡ Some bs }
     ensures readable { (cs : List Component) (list : List Selector) → IsTrue (list_all is_spelled (words_all cs)) → list_of cs ≡ Some list → IsTrue (is_readable_list (bare_list list)) }
 {
-    plain_name();
+    names_spell();
 }
 
 /// Components have a selector list exactly where it has no fault.
@@ -45,7 +45,5 @@ pub fn selector_text_reads()
     ensures { (bs : List BareSelector) (rest : List ℕ) → IsTrue (is_readable_list bs) → ReadsTo (list_text bs ++ (codes "{" ++ rest)) (words_all (list_again bs)) (codes "{" ++ rest) }
 {
     words_again();
-    names_spell();
     names_stay();
-    plain_name();
 }

@@ -288,7 +288,7 @@ impl<'a> Pending<'a> {
     fn step(&mut self, alloc: Global, component: &Component<'a>) -> Result<(), OutOfMemory>
         ensures { OnOk result (self.new ≡ pending_step self.old component.now) }
     {
-        self.reading.step(alloc, sign_of(component))?;
+        self.reading.step(alloc, sign_of(alloc, component)?)?;
         if self.place.is_none() && !is_gap(component) {
             self.place = Some(place_of(component));
         }

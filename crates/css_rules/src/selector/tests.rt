@@ -1,6 +1,6 @@
 use crate::selector::{SelectorFault, read_list, write_list};
 use crate::testing::large_list;
-use css_tokens::{Block, Component, Kind, List, OutOfMemory, is_plain_text, tokens};
+use css_tokens::{Block, Component, Kind, List, OutOfMemory, tokens};
 use std::alloc::Global;
 use std::test::Fail;
 
@@ -8,7 +8,7 @@ use std::test::Fail;
 fn components<'a>(alloc: Global, text: &'a str) -> Result<List<Component<'a>>, OutOfMemory> {
     let mut list = List::new(alloc);
     let bytes = text.as_bytes();
-    if bytes.len() > 1_000_000 || !is_plain_text(bytes) {
+    if bytes.len() > 1_000_000 {
         return Ok(list);
     }
     if let Ok(read) = tokens(alloc, bytes) {
@@ -69,6 +69,16 @@ fn a_space_keeps_a_name_of_dashes_from_a_child(rt: HostRuntime) -> Result<(), Fa
 }
 
 #[test]
+fn names_with_escapes(rt: HostRuntime) -> Result<(), Fail> {
+    let out = rewritten(rt.alloc(), ".\\31 0,.é\\26 b>#x\\.y#\\31,\\2d ")?;
+    assert_eq!(rt;
+        out.as_slice(),
+        ".\\31 0,.é\\&b>#x\\.y#\\31 ,\\-".as_bytes()
+    );
+    Ok(())
+}
+
+#[test]
 fn places(rt: HostRuntime) -> Result<(), Fail> {
     let prelude = components(rt.alloc(), "a,/**/ b.c#d&")?;
     let list = read_list(rt.alloc(), prelude.as_slice(), 13)?;
@@ -92,6 +102,8 @@ fn refusals(rt: HostRuntime) -> Result<(), Fail> {
         (" >a", Some(1)),
         ("    a> ", Some(4)),
         ("   #1", Some(3)),
+        ("#-", Some(0)),
+        ("#-1", Some(0)),
         ("a/**/b", Some(0)),
         ("&a", Some(0)),
         (":,,", Some(0)),

@@ -1,6 +1,6 @@
 -- What a fault of a text says, unless memory ran out.
 use Rattle.std.specs.Prelude.{ℕ, ◌≤◌, List, length}
-use Rattle.csslower.specs.Findings.{HasFinding, HasReadingFinding}
+use Rattle.csslower.specs.Findings.{HasFinding}
 use Rattle.csslower.specs.declared.text_fault.TextFault.{TextFault}
 use Rattle.csslower.specs.declared.text_fault.TextFault.TheVariants.{Finding, Memory}
 
@@ -8,11 +8,6 @@ use Rattle.csslower.specs.declared.text_fault.TextFault.TheVariants.{Finding, Me
 abbrev pub IsTextFault : List ℕ → TextFault → Type 0
 IsTextFault bytes (Finding code offset) = HasFinding bytes code offset
 IsTextFault bytes Memory = Unit {0}
-
--- the same of a text in which no byte waits for a later stage
-abbrev pub IsReadingFault : List ℕ → TextFault → Type 0
-IsReadingFault bytes (Finding code offset) = HasReadingFinding bytes code offset
-IsReadingFault bytes Memory = Unit {0}
 
 -- the place of a refusal is in the text or at its end
 abbrev pub IsWithin : List ℕ → TextFault → Type 0

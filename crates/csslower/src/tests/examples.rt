@@ -2,7 +2,6 @@
 ghost use Rattle.std.specs.Prelude.{◌≡◌, List, [], ◌∷◌, ◌++◌, true, false, Some, None, codes};
 ghost use Rattle.std.specs.Fmt.{decimal};
 ghost use Rattle.cascade_spec.specs.declared.finding.Code.TheVariants.{Syntax, Depth, Missing, Unbuilt};
-ghost use Rattle.csslower.specs.Findings.{is_unbuilt};
 ghost use Rattle.csslower.specs.Lines.{refusal_line, unread_line, unwritten_line};
 ghost use Rattle.csslower.specs.Words.{entry_of, is_scoped};
 
@@ -31,15 +30,6 @@ fn paths_are_scoped()
     ensures not_at_the_end { is_scoped (codes "a.module.css.css") ≡ false }
 {}
 
-// The bytes that wait for a later stage: `\` and those from 80 hexadecimal on.
-fn bytes_wait()
-    ensures backslash { is_unbuilt 92 ≡ true }
-    ensures first_of_no_ascii { is_unbuilt 128 ≡ true }
-    ensures last { is_unbuilt 255 ≡ true }
-    ensures last_of_ascii { is_unbuilt 127 ≡ false }
-    ensures letter { is_unbuilt 97 ≡ false }
-{}
-
 // The lines of messages.
 fn lines_are_said()
     ensures syntax { refusal_line (codes "a.css") (codes ".a{color:red") (record { place = record { file = 0; offset = 12 }; code = Syntax }) ≡ codes "a.css:" ++ decimal 1 ++ codes ":" ++ decimal 13 ++ codes ": Syntax cannot be read\n" }
@@ -54,6 +44,5 @@ fn lines_are_said()
 fn definitions_compute() {
     words_are_a_command();
     paths_are_scoped();
-    bytes_wait();
     lines_are_said();
 }

@@ -8,7 +8,7 @@ use std::test::Fail;
 
 #[test]
 fn writes_plain_rules(rt: HostRuntime) -> Result<(), Fail> {
-    let rows: [(&[u8], &[u8]); 9] = [
+    let rows: [(&[u8], &[u8]); 15] = [
         (b".a { color: red }", b".a{color:red}\n"),
         (b"", b""),
         (b"p{}q{;}/* c */", b""),
@@ -33,6 +33,24 @@ fn writes_plain_rules(rt: HostRuntime) -> Result<(), Fail> {
             b"p{width:calc(1px/**/+ 2px);a:b/**/c}",
             b"p{width:calc(1px/**/+ 2px);a:b/**/c}\n",
         ),
+        (
+            b".a{--x: 1 /* c */ 2;;width:100px\\9;--b:}",
+            b".a{--x:1 2;width:100px\\9;--b: }\n",
+        ),
+        (b".a{--x:\\61/* c */ b}", b".a{--x:\\61/**/ b}\n"),
+        (
+            "\u{feff}\u{feff}p{color:red}".as_bytes(),
+            b"\\feff p{color:red}\n",
+        ),
+        (b".\\31 0{color:red}", b".\\31 0{color:red}\n"),
+        (
+            ".é\\26 b,#x\\.y{content:\"a\\\nb\"}".as_bytes(),
+            ".é\\&b,#x\\.y{content:\"a\\\nb\"}\n".as_bytes(),
+        ),
+        (
+            ".naïve > ü{quotes:\"—\" 'ø' ; --Ö: ÄÖ}".as_bytes(),
+            ".naïve>ü{quotes:\"—\" 'ø';--Ö:ÄÖ}\n".as_bytes(),
+        ),
     ];
     for (text, written) in rows {
         let mut files = one_file(
@@ -52,7 +70,7 @@ fn writes_plain_rules(rt: HostRuntime) -> Result<(), Fail> {
 
 #[test]
 fn names_what_stands_first(rt: HostRuntime) -> Result<(), Fail> {
-    let rows: [(&[u8], &[u8]); 9] = [
+    let rows: [(&[u8], &[u8]); 15] = [
         (b".a{color:red", b"a.css:1:13: Syntax cannot be read\n"),
         (
             b".a{color:red}.a{color:red",
@@ -60,9 +78,21 @@ fn names_what_stands_first(rt: HostRuntime) -> Result<(), Fail> {
         ),
         (b"p{color:red}]", b"a.css:1:13: Syntax cannot be read\n"),
         (b"p{color:\"x", b"a.css:1:9: Syntax cannot be read\n"),
+        (b"p{}\xFF", b"a.css:1:4: Syntax cannot be read\n"),
+        (b"a\\\n{}", b"a.css:1:2: Syntax cannot be read\n"),
+        (b"\xC3", b"a.css:1:1: Syntax cannot be read\n"),
+        (b"\xED\xA0\x80", b"a.css:1:1: Syntax cannot be read\n"),
         (
-            b".a{width:100px\\9}",
-            b"a.css:1:15: Unbuilt not built yet\n",
+            b"\xF5\x80\x80\x80",
+            b"a.css:1:1: Syntax cannot be read\n",
+        ),
+        (
+            b"\xEF\xBB\xBFp{}}",
+            b"a.css:1:7: Syntax cannot be read\n",
+        ),
+        (
+            b"p{background:URL( x.png )}",
+            b"a.css:1:14: Unbuilt not built yet\n",
         ),
         (b"a:hover{color:red}", b"a.css:1:2: Unbuilt not built yet\n"),
         (

@@ -3,8 +3,8 @@ use Rattle.css_rules.specs.Declarations.{begins_custom}
 use Rattle.css_rules.proofs.CutMarks.{item-custom, item-other}
 use Rattle.css_rules.proofs.cuts.item_mark.Goals as goal
 
-pub returns-then-begins_custom : goal.returns-then-begins_custom
-returns-then-begins_custom c = item-custom c.args.components.now (ap begins_custom (sym c.trimmed_start.ensures) ∙ sym c.begins_custom.ensures ∙ c.if-begins_custom.true)
+pub returns-then-branch : goal.returns-then-branch
+returns-then-branch c = item-custom c.args.components.now (ap begins_custom (sym c.trimmed_start.ensures) ∙ sym c.in_ok-begins_custom.ensures ∙ c.if-branch.true)
 
-pub returns-else-begins_custom : goal.returns-else-begins_custom
-returns-else-begins_custom c = item-other c.args.components.now (ap begins_custom (sym c.trimmed_start.ensures) ∙ sym c.begins_custom.ensures ∙ c.if-begins_custom.false)
+pub returns-else-branch : goal.returns-else-branch
+returns-else-branch c = item-other c.args.components.now (ap begins_custom (sym c.trimmed_start.ensures) ∙ sym c.in_ok-begins_custom.ensures ∙ c.if-branch.false)

@@ -12,13 +12,13 @@ pub returns-then-next-tail : goal.returns-then-next-tail
 returns-then-next-tail c =
     sym (value_of-second c.args.tail.now c.end_of_cut-end.result c.end_of_cut-next.result (omega arith) c.end_of_cut-end.ensures.first c.end_of_cut-next.ensures.after c.if-next-tail.true c.end_of_cut-next.ensures.first)
 
-pub returns-then-is_important : goal.returns-then-is_important
-returns-then-is_important c =
+pub returns-then-branch : goal.returns-then-branch
+returns-then-branch c =
     ap (λ value. Some (value, true)) c.trimmed-value.ensures
     ∙ sym (value_of-marked c.args.tail.now c.end_of_cut-end.result c.end_of_cut-next.result _ (omega arith) c.end_of_cut-end.ensures.first c.end_of_cut-next.ensures.after c.end_of_cut-next.ensures.within c.if-next-tail.false c.end_of_cut-next.ensures.first
-    (ap is_important (sym c.trimmed.ensures) ∙ sym c.is_important.ensures ∙ c.if-is_important.true))
+    (ap is_important (sym c.trimmed.ensures) ∙ sym c.in_ok-is_important.ensures ∙ c.if-branch.true))
 
-pub returns-else-is_important : goal.returns-else-is_important
-returns-else-is_important c =
+pub returns-else-branch : goal.returns-else-branch
+returns-else-branch c =
     sym (value_of-marked c.args.tail.now c.end_of_cut-end.result c.end_of_cut-next.result _ (omega arith) c.end_of_cut-end.ensures.first c.end_of_cut-next.ensures.after c.end_of_cut-next.ensures.within c.if-next-tail.false c.end_of_cut-next.ensures.first
-    (ap is_important (sym c.trimmed.ensures) ∙ sym c.is_important.ensures ∙ c.if-is_important.false))
+    (ap is_important (sym c.trimmed.ensures) ∙ sym c.in_ok-is_important.ensures ∙ c.if-branch.false))

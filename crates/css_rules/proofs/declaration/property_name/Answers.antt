@@ -1,10 +1,11 @@
-use Rattle.std.proofs.Common.{◌∙◌, sym, ap, cond}
-use Rattle.std.specs.Str.{str_to_ascii_lowercase}
-use Rattle.css_rules.proofs.DeclarationLemmas.{lower-same}
+use Rattle.std.proofs.Common.{◌∙◌, sym, ap, not, ◌&&◌}
+use Rattle.std.specs.List.{list_any}
+use Rattle.std.specs.Char.{is_ascii_uppercase}
+use Rattle.css_rules.specs.Components.{is_custom}
+use Rattle.css_rules.proofs.DeclarationLemmas.{name_kept}
 use Rattle.css_rules.proofs.declaration.property_name.Goals as goal
 
-pub returns-else-has_capitals : goal.returns-else-has_capitals
-returns-else-has_capitals c =
-    c.lent-else-has_capitals.ensures
-    ∙ sym (ap (λ b. cond b c.args.name.now (str_to_ascii_lowercase c.args.name.now)) (sym c.is_custom.ensures ∙ c.if-is_custom.false)
-    ∙ lower-same c.args.name.now (sym c.has_capitals.ensures ∙ c.if-has_capitals.false))
+pub returns : goal.returns
+returns c =
+    name_kept c.args.name
+    (ap (λ name. not (is_custom name) && list_any is_ascii_uppercase name) (sym c.as_str.ensures) ∙ sym c.is_lowered.ensures ∙ c.if-is_lowered.false)

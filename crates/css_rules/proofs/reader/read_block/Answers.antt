@@ -15,8 +15,8 @@ loop-from-preserved c =
     let text = c.args.block.now in
     let from = c.loop-from.from in
     let end = c.end_of_cut-end.result in
-    let ends = first-cut ends_item (is_mark c.item_mark.result) text from end c.end_of_cut-end.ensures.after c.end_of_cut-end.ensures.within c.end_of_cut-end.ensures.first
-    (subst (EndsAt ends_item (is_mark c.item_mark.result)) (take_rest text from) c.item_mark.ensures) in
+    let ends = first-cut ends_item (is_mark c.in_ok-mark.mark) text from end c.end_of_cut-end.ensures.after c.end_of_cut-end.ensures.within c.end_of_cut-end.ensures.first
+    (subst (EndsAt ends_item (is_mark c.in_ok-mark.mark)) (take_rest text from) c.in_ok-mark.ensures) in
     let first = cuts_left-step ends_item text from end (omega arith) c.end_of_cut-end.ensures.within ends in
     let cut : Cut = record { front = slice_range text from end; mark = slice_get text end } in (
       omega arith,

@@ -4,4 +4,4 @@ use Rattle.css_rules.proofs.reader.read_plain.Goals as goal
 
 pub returns-clause-value : goal.returns-clause-value
 returns-clause-value c none =
-    plain-found c.args.item.now c.in_ok-value.value _ c.in-len1-up.len_at_least c.in_ok-value.ensures (sym c.declaration_refusal-refusal.ensures ∙ none)
+    plain-found c.args.item.now c.in_ok-value.value _ c.in-len1-up.len_at_least c.in_ok-value.ensures (sym c.in_ok-refusal.ensures ∙ none)

@@ -11,7 +11,7 @@ returns c =
     let again = c.words_again.ensures in
     let lists = c.selectors_are_read_again.ensures in
     let values : ValueLaws = record { words = printed.words; formed = printed.formed; text = printed.text; twice = printed.twice; one = c.one_pairing.ensures; solid = printed.solid; starts = printed.starts; ends = printed.ends } in
-    let names : NameLaws = record { plain = c.plain_name.ensures } in
+    let names : NameLaws = record { again = c.names_spell.ensures.again } in
     let selectors : SelectorLaws = record { sound = lists.sound; same = lists.same } in
     let texts : ListText = record { text = lists.text; formed = lists.formed } in
     let reading : ReadLaws = record {
@@ -19,10 +19,9 @@ returns c =
       marked = again.marks;
       spaced = again.space;
       fed = again.feed;
-      ident = again.ident;
-      idents = c.names_spell.ensures.ident;
+      ident = c.names_stay.ensures.ident;
       no_white = c.names_stay.ensures.white;
-      named = c.plain_name.ensures;
+      plain = c.plain_name.ensures;
       printed = c.values_again.ensures.printed;
       listed = c.selector_text_reads.ensures;
     } in

@@ -10,5 +10,4 @@ returns c text cs sheet reads formed e =
       back = laws.back;
       stops = laws.stops;
       bang_gap = λ w rest first gap. laws.bang (w.text ++ rest) (laws.gap w rest first gap);
-      bang_important = λ u rest is. laws.bang (u ++ rest) (laws.important u rest is);
     }) text cs sheet reads e

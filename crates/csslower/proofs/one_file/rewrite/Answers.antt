@@ -1,16 +1,12 @@
-use Rattle.std.proofs.Common.{◌∙◌, sym}
-use Rattle.csslower.proofs.Plain.{plain_of}
-use Rattle.csslower.proofs.TextFaults.{found_of, faulted, accepted}
+use Rattle.std.proofs.Common.{subst, sym}
+use Rattle.cascade_spec.specs.Readings.{KeepsWinners}
+use Rattle.csslower.specs.Findings.{HasComponents}
 use Rattle.csslower.proofs.one_file.rewrite.Goals as goal
 
-pub rewrite_plain-requires-clause-plain : goal.rewrite_plain-requires-clause-plain
-rewrite_plain-requires-clause-plain c = plain_of c.args.bytes.now (sym c.unbuilt_place.ensures.value ∙ c.in-None.is)
-
-pub returns-in-Some-clause-refused : goal.returns-in-Some-clause-refused
-returns-in-Some-clause-refused c = found_of c.args.bytes.now c.in-Some.place (sym c.unbuilt_place.ensures.value ∙ c.in-Some.is)
-
-pub returns-in-None-clause-refused : goal.returns-in-None-clause-refused
-returns-in-None-clause-refused c = faulted c.args.bytes.now c.rewrite_plain.result (sym c.unbuilt_place.ensures.value ∙ c.in-None.is) c.rewrite_plain.ensures.refused
-
-pub returns-in-None-clause-accepted : goal.returns-in-None-clause-accepted
-returns-in-None-clause-accepted c = accepted c.args.bytes.now c.rewrite_plain.result (sym c.unbuilt_place.ensures.value ∙ c.in-None.is) c.rewrite_plain.ensures.accepted
+pub returns-clause-kept : goal.returns-clause-kept
+returns-clause-kept c =
+    let bytes = c.args.bytes.now in
+    let has : HasComponents bytes c.as_slice.result.now = subst (HasComponents bytes) (sym c.as_slice.ensures) c.in_ok-components.ensures.read in
+    subst (KeepsWinners bytes) (sym c.in_ok-text.ensures)
+    (c.sheets_keep_winners.ensures.kept bytes c.in_ok-sheet.sheet
+    (c.as_slice.result.now, record { reads = has.tokens.read; formed = has.formed }, c.in_ok-sheet.ensures.found))

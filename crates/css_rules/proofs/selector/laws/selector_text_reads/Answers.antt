@@ -11,13 +11,10 @@ returns c =
       added = again.plus;
       added_dot = stay.plus_dot;
       spaced = again.space;
-      ident = again.ident;
-      hashed = again.hash;
-      idents = c.names_spell.ensures.ident;
-      hashes = c.names_spell.ensures.hash;
+      ident = stay.ident;
+      child = stay.child;
+      hashed = stay.hash;
       no_digit = stay.digit;
       no_dot = stay.dot;
       no_white = stay.white;
-      child = stay.child;
-      named = c.plain_name.ensures;
     })

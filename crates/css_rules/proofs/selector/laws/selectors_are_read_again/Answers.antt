@@ -17,12 +17,12 @@ pub returns-clause-formed : goal.returns-clause-formed
 returns-clause-formed c = formed-list
 
 pub returns-clause-sound : goal.returns-clause-sound
-returns-clause-sound c = again-sound c.plain_name.ensures
+returns-clause-sound c = again-sound (record { ident = c.names_spell.ensures.again; hash = c.names_spell.ensures.hash_again })
 
 pub returns-clause-same : goal.returns-clause-same
 returns-clause-same c bs cs readable words =
-    ap (option_map bare_list) (list-whole cs 0 (again-sound c.plain_name.ensures bs cs 0 readable words))
-    ∙ ap Some (again-same c.plain_name.ensures bs cs readable words)
+    ap (option_map bare_list) (list-whole cs 0 (again-sound (record { ident = c.names_spell.ensures.again; hash = c.names_spell.ensures.hash_again }) bs cs 0 readable words))
+    ∙ ap Some (again-same (record { ident = c.names_spell.ensures.again; hash = c.names_spell.ensures.hash_again }) bs cs readable words)
 
 pub returns-clause-readable : goal.returns-clause-readable
 returns-clause-readable c cs list spelled e =
