@@ -82,14 +82,8 @@ fn names_what_stands_first(rt: HostRuntime) -> Result<(), Fail> {
         (b"a\\\n{}", b"a.css:1:2: Syntax cannot be read\n"),
         (b"\xC3", b"a.css:1:1: Syntax cannot be read\n"),
         (b"\xED\xA0\x80", b"a.css:1:1: Syntax cannot be read\n"),
-        (
-            b"\xF5\x80\x80\x80",
-            b"a.css:1:1: Syntax cannot be read\n",
-        ),
-        (
-            b"\xEF\xBB\xBFp{}}",
-            b"a.css:1:7: Syntax cannot be read\n",
-        ),
+        (b"\xF5\x80\x80\x80", b"a.css:1:1: Syntax cannot be read\n"),
+        (b"\xEF\xBB\xBFp{}}", b"a.css:1:7: Syntax cannot be read\n"),
         (
             b"p{background:URL( x.png )}",
             b"a.css:1:14: Unbuilt not built yet\n",
