@@ -4,6 +4,7 @@ pub mod SpellingTexts
 pub mod WritingLemmas
 pub mod SignsRead
 pub mod NameLemmas
+pub mod NameTexts
 pub mod JoiningLemmas
 pub mod ListingReads
 pub mod ResultLemmas

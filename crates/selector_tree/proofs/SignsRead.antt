@@ -23,7 +23,7 @@ use Rattle.selector_tree.specs.declared.reading.Phase.{Phase}
 use Rattle.selector_tree.specs.declared.reading.Phase.TheVariants.{Due, Inside, Dotted, Coloned, Doubled, Behind, Failed}
 use Rattle.selector_tree.specs.declared.reading.Reading.{Reading}
 use Rattle.selector_tree.specs.declared.reading.Pending.{Pending}
-use Rattle.selector_tree.specs.Names.{lowered}
+use Rattle.selector_tree.specs.Names.{pseudo_text}
 use Rattle.selector_tree.specs.Grammar.{Body, with_part, tailed, states_of, body_of, compound_with, compound_of, is_old_element, stripped, white_before, sign_before, spaced, Runs, runs_of, Step, stands_before, with_step, steps_of, link_of, selector_with, lead_of, behind_lead, Mark, is_gap_sign, is_comma_sign, first_place, selector_of, Member, empty_before, with_mark, cut_at_commas, or_fault, first_and, members_reading, marks_reading}
 use Rattle.selector_tree.specs.Private.ReadingSteps.{joined, chained, of_type, with_simple, with_element, with_state, reading, step, concluded, fresh, pending_step, pending_run, pending_selector, pending_reading, list_from, behind_list}
 
@@ -262,9 +262,9 @@ meaning-step at (Name n) Inside lead f kind parts None ws = refl
 meaning-step at (Name n) Inside lead f kind parts (Some t) ws = refl
 meaning-step at (Name n) (Dotted d) lead f kind parts None ws = part-in at lead f (record { kind = kind; parts = parts; tail = None }) (simple.Class n) d (runs_of ws)
 meaning-step at (Name n) (Dotted d) lead f kind parts (Some t) ws = refl
-meaning-step at (Name n) (Coloned d) lead f kind parts None ws = pseudo-at at lead f kind parts d (lowered n) ws (is_old_element (lowered n))
-meaning-step at (Name n) (Coloned d) lead f kind parts (Some t) ws = ap (λ (o : Option Compound). selector_from at lead f o (steps_of (runs_of ws).rest)) (more-state (record { kind = kind; parts = parts; tail = Some t }) t (lowered n) (states_of (runs_of ws).first))
-meaning-step at (Name n) (Doubled d) lead f kind parts None ws = ap (λ (o : Option Compound). selector_from at lead f o (steps_of (runs_of ws).rest)) (more-element (record { kind = kind; parts = parts; tail = None }) (lowered n) (states_of (runs_of ws).first))
+meaning-step at (Name n) (Coloned d) lead f kind parts None ws = pseudo-at at lead f kind parts d (pseudo_text n) ws (is_old_element (pseudo_text n))
+meaning-step at (Name n) (Coloned d) lead f kind parts (Some t) ws = ap (λ (o : Option Compound). selector_from at lead f o (steps_of (runs_of ws).rest)) (more-state (record { kind = kind; parts = parts; tail = Some t }) t (pseudo_text n) (states_of (runs_of ws).first))
+meaning-step at (Name n) (Doubled d) lead f kind parts None ws = ap (λ (o : Option Compound). selector_from at lead f o (steps_of (runs_of ws).rest)) (more-element (record { kind = kind; parts = parts; tail = None }) (pseudo_text n) (states_of (runs_of ws).first))
 meaning-step at (Name n) (Doubled d) lead f kind parts (Some t) ws = refl
 meaning-step at (Name n) Behind lead f kind parts None ws = from-joined at lead f kind parts combinators.Descendant (compound_with (types.Name n) (body_of (runs_of ws).first)) (steps_of (runs_of ws).rest)
 meaning-step at (Name n) Behind lead f kind parts (Some t) ws = tail-stuck at lead f kind parts t combinators.Descendant (compound_with (types.Name n) (body_of (runs_of ws).first)) (steps_of (runs_of ws).rest)

@@ -12,7 +12,7 @@ use Rattle.css_tokens.specs.Trees.{is_text}
 use Rattle.selector_tree.specs.declared.selector.Attribute.{Attribute}
 use Rattle.selector_tree.specs.declared.selector.Test.{Test}
 use Rattle.selector_tree.specs.declared.selector.Test.TheVariants as tests
-use Rattle.selector_tree.specs.Names.{is_name, lowered}
+use Rattle.selector_tree.specs.Names.{lowered}
 use Rattle.selector_tree.specs.Spelling.{begins_digit, unsigned}
 
 -- white space?
@@ -41,7 +41,7 @@ is_white ps = list_all (λ p. is_white_kind p.kind) ps
 
 -- the name that an identifier spells
 abbrev pub name_in : Piece → Option (List ℕ)
-name_in p = if is_ident_kind p.kind && is_name (name_of_word p.kind p.text) then Some (name_of_word p.kind p.text) else None
+name_in p = if is_ident_kind p.kind then Some (name_of_word p.kind p.text) else None
 
 -- Attribute selectors.
 
@@ -65,13 +65,13 @@ test_of p = if is_delim_kind p.kind then test_before_equals p.text else None
 
 -- A value is a name or the content of a String.
 abbrev pub value_in_kind : Kind → List ℕ → Option (List ℕ)
-value_in_kind kinds.Ident text = if is_name (name_of_word kinds.Ident text) then Some (name_of_word kinds.Ident text) else None
+value_in_kind kinds.Ident text = Some (name_of_word kinds.Ident text)
 value_in_kind kinds.String text = Some (name_of_word kinds.String text)
 value_in_kind k text = None
 
 -- is it `i` or `s`, in any case of letters?
 abbrev pub is_flag : Piece → Bool
-is_flag p = is_ident_kind p.kind && (is_text (lowered p.text) (codes "i") || is_text (lowered p.text) (codes "s"))
+is_flag p = is_ident_kind p.kind && (is_text (lowered (name_of_word p.kind p.text)) (codes "i") || is_text (lowered (name_of_word p.kind p.text)) (codes "s"))
 
 -- behind a value: nothing, or a flag
 abbrev pub flagged : List ℕ → Test → List ℕ → List Piece → Option Attribute

@@ -17,7 +17,7 @@ use Rattle.selector_tree.specs.declared.selector.Compound as compound
 use Rattle.selector_tree.specs.declared.selector.Selector as selector
 use Rattle.selector_tree.specs.declared.sign.Sign.{Sign}
 use Rattle.selector_tree.specs.declared.sign.Sign.TheVariants.{Comment, White, Comma, Joint, Name, Star, Dot, Colon, Whole, Call}
-use Rattle.selector_tree.specs.Names.{lowered}
+use Rattle.selector_tree.specs.Names.{pseudo_text}
 
 -- Compounds. Their signs hold no comment, white space, comma or combinator.
 
@@ -45,7 +45,7 @@ tailed element states = option_map (λ ss. record { parts = []; tail = Some (rec
 -- A state is a colon and a name.
 abbrev pub states_of : List Sign → Option (List (List ℕ))
 states_of [] = Some []
-states_of (Colon at ∷ Name n ∷ ws) = option_map (λ ss. lowered n ∷ ss) (states_of ws)
+states_of (Colon at ∷ Name n ∷ ws) = option_map (λ ss. pseudo_text n ∷ ss) (states_of ws)
 states_of ws = None
 
 -- Parts, and then perhaps a pseudo-element with its states. A part is `.` and a name, an id, an attribute selector, `&`, or
@@ -54,9 +54,9 @@ abbrev pub body_of : List Sign → Option Body
 body_of [] = Some (record { parts = []; tail = None })
 body_of (Dot at ∷ Name n ∷ ws) = with_part (simple.Class n) at (body_of ws)
 body_of (Whole x at ∷ ws) = with_part x at (body_of ws)
-body_of (Colon at ∷ Name n ∷ ws) = if is_old_element (lowered n) then tailed (lowered n) (states_of ws) else with_part (simple.Pseudo (lowered n)) at (body_of ws)
+body_of (Colon at ∷ Name n ∷ ws) = if is_old_element (pseudo_text n) then tailed (pseudo_text n) (states_of ws) else with_part (simple.Pseudo (pseudo_text n)) at (body_of ws)
 body_of (Colon at ∷ Call (Some x) ∷ ws) = with_part x at (body_of ws)
-body_of (Colon at ∷ Colon b ∷ Name n ∷ ws) = tailed (lowered n) (states_of ws)
+body_of (Colon at ∷ Colon b ∷ Name n ∷ ws) = tailed (pseudo_text n) (states_of ws)
 body_of (Colon at ∷ Colon b ∷ Call x ∷ ws) = with_part simple.Foreign at (body_of ws)
 body_of ws = None
 

@@ -12,6 +12,7 @@ use Rattle.css_tokens.specs.declared.component.Component.TheOpen.{Component-F, S
 use Rattle.css_tokens.specs.declared.component.Component.TheFolds.{fold-Component, fold_out-Component}
 use Rattle.css_tokens.specs.declared.component.Component.TheVariants.{outs-Single, outs-Block}
 use Rattle.css_tokens.specs.Names.{name_of_word}
+use Rattle.css_tokens.specs.NameText.{name_text}
 use Rattle.css_tokens.specs.Piece.{Piece}
 use Rattle.css_tokens.specs.Trees.{is_text}
 use Rattle.selector_tree.specs.declared.selector.Attribute.{Attribute}
@@ -27,17 +28,13 @@ use Rattle.selector_tree.specs.declared.sign.Sign.{Sign}
 use Rattle.selector_tree.specs.declared.sign.Sign.TheVariants as signs
 use Rattle.selector_tree.specs.Arguments.{attribute_of, lone_name, an_plus_b}
 use Rattle.selector_tree.specs.Grammar.{Mark, marks_reading}
-use Rattle.selector_tree.specs.Names.{is_name, lowered}
+use Rattle.selector_tree.specs.Names.{is_id, lowered}
 
 -- Tokens.
 
--- An identifier is a name where its name is one.
-abbrev pub name_sign : List ℕ → Sign
-name_sign name = if is_name name then signs.Name name else signs.Other
-
--- A Hash is an id where its name is one.
-abbrev pub id_sign : List ℕ → ℕ → Sign
-id_sign name at = if is_name name then signs.Whole (simple.Id name) at else signs.Other
+-- the sign of a Hash of this text and this name: an id where what stands behind `#` spells an identifier
+abbrev pub id_sign : List ℕ → List ℕ → ℕ → Sign
+id_sign text name at = if is_id text then signs.Whole (simple.Id name) at else signs.Other
 
 -- the sign of a Delim of this text
 abbrev pub delim_sign : List ℕ → ℕ → Sign
@@ -54,8 +51,8 @@ delim_sign text at =
 abbrev pub kind_sign : Kind → List ℕ → ℕ → Sign
 kind_sign kinds.Comment text at = signs.Comment
 kind_sign kinds.White text at = signs.White
-kind_sign kinds.Ident text at = name_sign (name_of_word kinds.Ident text)
-kind_sign kinds.Hash text at = id_sign (name_of_word kinds.Hash text) at
+kind_sign kinds.Ident text at = signs.Name (name_of_word kinds.Ident text)
+kind_sign kinds.Hash text at = id_sign text (name_of_word kinds.Hash text) at
 kind_sign kinds.Delim text at = delim_sign text at
 kind_sign kinds.Colon text at = signs.Colon at
 kind_sign kinds.Comma text at = signs.Comma
@@ -155,7 +152,7 @@ call_by callees.Where name ms = option_map (λ ss. simple.Where ss) (forgiving_l
 call_by callees.Local name ms = option_map (λ k. simple.Local k) (compound_in ms)
 call_by callees.Global name ms = option_map (λ k. simple.Global k) (compound_in ms)
 call_by callees.Step name ms = Some (argued name (option_and_then an_plus_b (tokens_of ms)))
-call_by callees.Lang name ms = Some (argued name (option_and_then lone_name (tokens_of ms)))
+call_by callees.Lang name ms = Some (argued name (option_map name_text (option_and_then lone_name (tokens_of ms))))
 call_by callees.Other name ms = Some simple.Foreign
 
 -- the simple selector that a Function of this name is behind a colon, where it is one

@@ -1,21 +1,14 @@
 //! What stands in `[]`, in `:nth-..()` and in `:lang()` (Selectors 4, sections 6, 7.2 and 18; CSS Syntax 3, section 6).
 
 ghost use Rattle.selector_tree.specs.Arguments.{after_digits, after_spaces, after_white, an_plus_b, attribute_of, begun, flagged, is_an_plus_b, is_blank, is_delim, is_flag, is_integer, is_offset, is_step, is_white, is_white_kind, is_word, kind_text, lone, lone_name, name_in, named, operated, test_before_equals, test_of, texts_of, value_in_kind, valued};
-ghost use Rattle.selector_tree.specs.Names.{is_name, lowered};
+ghost use Rattle.selector_tree.specs.Names.{lowered};
 ghost use Rattle.selector_tree.specs.Spelling.{begins_digit, unsigned};
 ghost use Rattle.std.specs.Option.{option_map};
 ghost use Rattle.std.specs.Prelude.{◌≡◌, codes, string_bytes, IfOk};
 
 use crate::selector::{Attribute, Test};
-use css_tokens::{Kind, OutOfMemory, Text, Token, is_plain_name, name_of};
+use css_tokens::{Kind, OutOfMemory, Text, Token, name_of};
 use std::alloc::Global;
-
-/// Whether a text is a name that a selector can hold.
-pub fn is_name(text: &str) -> bool
-    ensures { result ≡ is_name text.now }
-{
-    is_plain_name(text)
-}
 
 fn is_white_token(token: &Token) -> bool
     ensures { result ≡ is_white_kind token.now.kind }
@@ -44,14 +37,9 @@ fn is_white(tokens: &[Token]) -> bool
 fn name_in<'a>(alloc: Global, token: &Token<'a>) -> Result<Option<Text<'a>>, OutOfMemory>
     ensures { IfOk result (λ name. name ≡ name_in token.now) }
 {
-    if !matches!(token.kind, Kind::Ident) {
-        return Ok(None);
-    }
-    let name = name_of(alloc, token)?;
-    if is_name(name.as_str()) {
-        Ok(Some(name))
-    } else {
-        Ok(None)
+    match token.kind {
+        Kind::Ident => Ok(Some(name_of(alloc, token)?)),
+        _ => Ok(None),
     }
 }
 
@@ -90,51 +78,48 @@ fn value_in<'a>(alloc: Global, token: &Token<'a>) -> Result<Option<Text<'a>>, Ou
     ensures { IfOk result (λ value. value ≡ value_in_kind token.now.kind token.now.text) }
 {
     match token.kind {
-        Kind::Ident => {
-            let name = name_of(alloc, token)?;
-            if is_name(name.as_str()) {
-                Ok(Some(name))
-            } else {
-                Ok(None)
-            }
-        }
-        Kind::String => Ok(Some(name_of(alloc, token)?)),
+        Kind::Ident | Kind::String => Ok(Some(name_of(alloc, token)?)),
         _ => Ok(None),
     }
 }
 
 /// Whether it is `i` or `s`, in any case of letters.
-fn is_flag(token: &Token) -> bool
-    ensures { result ≡ is_flag token.now }
+fn is_flag(alloc: Global, token: &Token) -> Result<bool, OutOfMemory>
+    ensures { IfOk result (λ b. b ≡ is_flag token.now) }
 {
-    matches!(token.kind, Kind::Ident)
-        && (token.text.eq_ignore_ascii_case("i") || token.text.eq_ignore_ascii_case("s"))
+    if !matches!(token.kind, Kind::Ident) {
+        return Ok(false);
+    }
+    let name = name_of(alloc, token)?;
+    let name = name.as_str();
+    Ok(name.eq_ignore_ascii_case("i") || name.eq_ignore_ascii_case("s"))
 }
 
 /// What stands behind a value: nothing, or a flag.
 fn flagged<'a>(
+    alloc: Global,
     name: Text<'a>,
     test: Test,
     value: Text<'a>,
     tokens: &[Token<'a>],
-) -> Option<Attribute<'a>>
-    ensures { result ≡ flagged name.entry test value.entry tokens.now }
+) -> Result<Option<Attribute<'a>>, OutOfMemory>
+    ensures { IfOk result (λ a. a ≡ flagged name.entry test value.entry tokens.now) }
 {
     let flag = match tokens {
         [] => false,
         [first, rest @ ..] => {
-            if !(is_flag(first) && is_white(rest)) {
-                return None;
+            if !(is_flag(alloc, first)? && is_white(rest)) {
+                return Ok(None);
             }
             true
         }
     };
-    Some(Attribute {
+    Ok(Some(Attribute {
         name,
         test,
         value,
         flag,
-    })
+    }))
 }
 
 /// What stands behind an operator: a value.
@@ -150,7 +135,7 @@ fn valued<'a>(
         return Ok(None);
     };
     match value_in(alloc, first)? {
-        Some(value) => Ok(flagged(name, test, value, after_white(rest))),
+        Some(value) => flagged(alloc, name, test, value, after_white(rest)),
         None => Ok(None),
     }
 }

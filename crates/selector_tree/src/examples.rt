@@ -9,7 +9,7 @@ ghost use Rattle.selector_tree.specs.Signs.{list_reading};
 ghost use Rattle.selector_tree.specs.Spelling as spelled;
 ghost use Rattle.selector_tree.specs.Spelling.{list_spelling, list_text, string_text, test_spelling};
 ghost use Rattle.selector_tree.specs.Specificities.{greatest, nothing, plus, selector_specificity, specificity_cmp};
-ghost use Rattle.selector_tree.specs.Samples.{attribute, brackets, call, class, colon, comma, comment, delim, ended, every, id, ident, one, one_at, only, part_at, pseudo, source, space, token, triple, two, typed, untyped};
+ghost use Rattle.selector_tree.specs.Samples.{attribute, brackets, call, class, colon, comma, comment, delim, ended, every, hash, id, ident, one, one_at, only, part_at, pseudo, source, space, token, triple, two, typed, untyped};
 ghost use Rattle.css_tokens.specs.declared.kind.Kind.TheVariants as kinds;
 
 /// How specific selectors are: examples of Selectors 4, section 17, where the list around counts two ids.
@@ -79,6 +79,21 @@ pub fn readings()
     ensures foreign { list_reading false (source (colon ∷ call "has(" (ident "a" ∷ []) ∷ [])) 7 ≡ Ok (only simple.Foreign ∷ []) }
     ensures foreign_step { list_reading false (source (colon ∷ call "nth-child(" (ident "x" ∷ []) ∷ [])) 13 ≡ Ok (only simple.Foreign ∷ []) }
     ensures comment_is_nothing { list_reading false (source (ident "a" ∷ comment ∷ delim "." ∷ ident "b" ∷ [])) 7 ≡ Ok (one (typed "a" (part_at 5 (class "b") ∷ [])) ∷ []) }
+{}
+
+/// Names may have escapes and any characters. What is kept of a pseudo-class is spelled as it prints.
+pub fn names()
+    ensures escaped_type { list_reading false (source (ident "\\31 0" ∷ [])) 5 ≡ Ok (one (typed "10" []) ∷ []) }
+    ensures beyond_ascii { list_reading false (source (delim "." ∷ ident "\\e9" ∷ [])) 4 ≡ Ok (only (simple.Class (0xC3 ∷ 0xA9 ∷ [])) ∷ []) }
+    ensures escaped_id { list_reading false (source (hash "#\\31 a" ∷ [])) 6 ≡ Ok (only (id "1a") ∷ []) }
+    ensures dashes_as_an_id { list_reading false (source (hash "#--" ∷ [])) 3 ≡ Ok (only (id "--") ∷ []) }
+    ensures digit_is_no_id { list_reading false (source (hash "#1a" ∷ [])) 3 ≡ Err 0 }
+    ensures digit_behind_a_dash_is_no_id { list_reading false (source (hash "#-1" ∷ [])) 3 ≡ Err 0 }
+    ensures escaped_letter { list_reading false (source (colon ∷ ident "\\68over" ∷ [])) 9 ≡ Ok (only (pseudo "hover") ∷ []) }
+    ensures kept_as_it_prints { list_reading false (source (colon ∷ ident "\\31 A" ∷ [])) 6 ≡ Ok (only (pseudo "\\31 a") ∷ []) }
+    ensures escaped_lang { list_reading false (source (colon ∷ call "lang(" (ident "\\65n" ∷ []) ∷ [])) 12 ≡ Ok (only (pseudo "lang(en)") ∷ []) }
+    ensures lang_as_it_prints { list_reading false (source (colon ∷ call "lang(" (ident "\\31 A" ∷ []) ∷ [])) 12 ≡ Ok (only (pseudo "lang(\\31 A)") ∷ []) }
+    ensures printed_class { list_text (only (class "1a") ∷ []) ≡ codes ".\\31 a" }
 {}
 
 /// What is no selector list, and where it is refused.

@@ -6,6 +6,7 @@ mod count;
 pub mod examples;
 mod fault;
 mod laws;
+mod name;
 mod read;
 mod reading;
 mod selector;

@@ -1,39 +1,30 @@
 //! Selectors and lists of them, read from component values (Selectors 4, section 18).
 
+ghost use Rattle.css_tokens.specs.NameText.{name_text};
 ghost use Rattle.selector_tree.specs.Faults.{FaultIs};
 ghost use Rattle.selector_tree.specs.Grammar.{Mark};
 ghost use Rattle.selector_tree.specs.Private.ReadingSteps.{Reads};
 ghost use Rattle.selector_tree.specs.Arguments.{an_plus_b, attribute_of, lone_name};
-ghost use Rattle.selector_tree.specs.Signs.{argued, attribute_sign, call_of, callee_of, compound_in, delim_sign, call_by, forgiving_list, id_sign, is_gap, kind_sign, list_in, list_reading, mark_of, name_sign, opened_sign, takes_list, tokens_of, with_argument};
+ghost use Rattle.selector_tree.specs.Signs.{argued, attribute_sign, call_of, callee_of, compound_in, delim_sign, call_by, forgiving_list, id_sign, is_gap, kind_sign, list_in, list_reading, mark_of, opened_sign, takes_list, tokens_of, with_argument};
 ghost use Rattle.selector_tree.specs.declared.selector.Simple as simple;
 ghost use Rattle.std.specs.List.{list_all};
 ghost use Rattle.std.specs.Option.{option_and_then, option_map};
 ghost use Rattle.std.specs.Prelude.{◌≡◌, ℕ, List, map, IfOk, IfErr, Ok, true, false};
 
-use crate::argument::{an_plus_b, attribute_of, is_name, lone_name};
+use crate::argument::{an_plus_b, attribute_of, lone_name};
 use crate::fault::SelectorFault;
-use crate::reading::{Listing, lowered};
+use crate::name::{is_id, lowered, name_text};
+use crate::reading::Listing;
 use crate::selector::{Combinator, Compound, Selector, Simple};
 use crate::sign::{Callee, Sign};
 use css_tokens::{Block, Component, Kind, List, OutOfMemory, Text, Token, name_of};
 use std::alloc::Global;
 
-/// The sign of an identifier of this name.
-fn name_sign<'a>(name: Text<'a>) -> Sign<'a>
-    ensures { result ≡ name_sign name.entry }
+/// The sign of a Hash: an id where what stands behind `#` spells an identifier.
+fn id_sign<'a>(text: &str, name: Text<'a>, at: u32) -> Sign<'a>
+    ensures { result ≡ id_sign text.now name.entry at }
 {
-    if is_name(name.as_str()) {
-        Sign::Name(name)
-    } else {
-        Sign::Other
-    }
-}
-
-/// The sign of a Hash of this name.
-fn id_sign<'a>(name: Text<'a>, at: u32) -> Sign<'a>
-    ensures { result ≡ id_sign name.entry at }
-{
-    if is_name(name.as_str()) {
+    if is_id(text.as_bytes()) {
         Sign::Whole(Simple::Id(name), at)
     } else {
         Sign::Other
@@ -62,8 +53,8 @@ fn token_sign<'a>(alloc: Global, token: &Token<'a>) -> Result<Sign<'a>, OutOfMem
     match token.kind {
         Kind::Comment => Ok(Sign::Comment),
         Kind::White => Ok(Sign::White),
-        Kind::Ident => Ok(name_sign(name_of(alloc, token)?)),
-        Kind::Hash => Ok(id_sign(name_of(alloc, token)?, token.at)),
+        Kind::Ident => Ok(Sign::Name(name_of(alloc, token)?)),
+        Kind::Hash => Ok(id_sign(token.text, name_of(alloc, token)?, token.at)),
         Kind::Delim => Ok(delim_sign(token.text, token.at)),
         Kind::Colon => Ok(Sign::Colon(token.at)),
         Kind::Comma => Ok(Sign::Comma),
@@ -228,13 +219,16 @@ fn lang_call<'a>(
     name: &str,
     components: &[Component<'a>],
 ) -> Result<Simple<'a>, OutOfMemory>
-    ensures { IfOk result (λ x. x ≡ argued name.now (option_and_then lone_name (tokens_of (map mark_of components.now)))) }
+    ensures { IfOk result (λ x. x ≡ argued name.now (option_map name_text (option_and_then lone_name (tokens_of (map mark_of components.now))))) }
 {
     let Some(tokens) = tokens_of(alloc, components)? else {
         return Ok(Simple::Foreign);
     };
     match lone_name(alloc, tokens.as_slice())? {
-        Some(argument) => with_argument(alloc, name, argument.as_str()),
+        Some(argument) => {
+            let argument = name_text(alloc, argument)?;
+            with_argument(alloc, name, argument.as_str())
+        }
         None => Ok(Simple::Foreign),
     }
 }

@@ -1,17 +1,15 @@
 //! A selector that is read from left to right, sign by sign.
 
-ghost use Rattle.selector_tree.specs.Names.{lowered};
 ghost use Rattle.selector_tree.specs.Faults.{FaultIs};
 ghost use Rattle.selector_tree.specs.Grammar.{is_old_element};
 ghost use Rattle.selector_tree.specs.Private.ReadingSteps.{chained, fresh, joined, linked, listing_end, listing_step, of_type, on_argument, on_call, on_colon, on_dot, on_joint, on_name, on_part, on_pseudo, on_type, on_white, pending_reading, pending_step, reading, step, with_element, with_member, with_simple};
 ghost use Rattle.selector_tree.specs.declared.reading.Phase.TheVariants.{Inside};
-ghost use Rattle.std.specs.Char.{is_ascii_uppercase};
 ghost use Rattle.selector_tree.specs.Signs.{lone_compound, read};
-ghost use Rattle.std.specs.List.{list_any};
 ghost use Rattle.std.specs.Option.{option_and_then};
 ghost use Rattle.std.specs.Prelude.{◌≡◌, [], ◌∷◌, IfOk, IfErr, OnOk, Ok};
 
 use crate::fault::SelectorFault;
+use crate::name::pseudo_text;
 use crate::selector::{Combinator, Compound, Link, Part, Selector, Simple, Tail, TypeName};
 use crate::sign::Sign;
 use css_tokens::{List, OutOfMemory, Text};
@@ -58,23 +56,6 @@ struct Reading<'a> {
 struct Pending<'a> {
     reading: Reading<'a>,
     place: Option<u32>,
-}
-
-fn has_capitals(name: &str) -> bool
-    ensures { result ≡ list_any is_ascii_uppercase name.now }
-{
-    name.as_bytes().iter().any(|byte| byte.is_ascii_uppercase())
-}
-
-/// The name in lower case.
-pub fn lowered<'a>(alloc: Global, name: Text<'a>) -> Result<Text<'a>, OutOfMemory>
-    ensures { IfOk result (λ text. text ≡ lowered name.entry) }
-{
-    if has_capitals(name.as_str()) {
-        Ok(Text::owned(name.as_str().to_ascii_lowercase(alloc)?))
-    } else {
-        Ok(name)
-    }
 }
 
 /// Whether a pseudo-element of this name may have one colon.
@@ -172,7 +153,7 @@ impl<'a> Reading<'a> {
         Ok(())
     }
 
-    /// A name in lower case behind a colon: a state behind a pseudo-element, and else such an element or a part.
+    /// A name behind a colon, as its text is kept: a state behind a pseudo-element, and else such an element or a part.
     fn on_pseudo(&mut self, alloc: Global, name: Text<'a>, at: u32) -> Result<(), OutOfMemory>
         ensures { OnOk result (self.new ≡ on_pseudo name.entry at self.old.compound.tail self.old.lead self.old.front self.old.compound) }
     {
@@ -201,11 +182,11 @@ impl<'a> Reading<'a> {
                 self.add(Simple::Class(name), at)
             }
             Phase::Coloned(at) => {
-                let name = lowered(alloc, name)?;
+                let name = pseudo_text(alloc, name)?;
                 self.on_pseudo(alloc, name, at)
             }
             Phase::Doubled(_) if self.compound.tail.is_none() => {
-                let name = lowered(alloc, name)?;
+                let name = pseudo_text(alloc, name)?;
                 self.add_element(alloc, name);
                 Ok(())
             }

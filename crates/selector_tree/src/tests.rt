@@ -1,12 +1,12 @@
 use crate::{SelectorFault, Specificity, read_list, specificity, write_list};
-use css_tokens::{Component, List, components, is_plain_text, places_rise_in_a_text, tokens};
+use css_tokens::{Component, List, OutOfMemory, components, places_rise_in_a_text, tokens};
 use std::alloc::Global;
 use std::test::Fail;
 
-/// The components of a short text whose brackets pair.
+/// The components of a text whose brackets pair.
 fn prelude(alloc: Global, text: &str) -> Result<List<Component<'_>>, SelectorFault> {
     let bytes = text.as_bytes();
-    if bytes.len() > 1000 || !is_plain_text(bytes) {
+    if bytes.len() > 1_000_000 {
         return Err(SelectorFault::Memory);
     }
     let end = bytes.len() as u32;
@@ -70,6 +70,13 @@ fn reads_and_writes(rt: HostRuntime) -> Result<(), Fail> {
             ":nth-child(+n),:nth-child(+5),:nth-child(7n-1)",
         ),
         ("p:has(a)", "p"),
+        (".é>#\\31 a:\\68OVER", ".é>#\\31 a:hover"),
+        (
+            "\\31 0,[\\61=\\e9  \\49],:\\31 A",
+            "\\31 0,[a=\"é\"],:\\31 a",
+        ),
+        (":Lang(\\65n)::\\62 EFORE", ":lang(en)::before"),
+        ("#--1,#-\\31,#é", "#--1,#-\\31 ,#é"),
     ];
     for (text, wanted) in cases {
         let out = rewritten(rt.alloc(), text, false)?;
@@ -97,9 +104,50 @@ fn refuses(rt: HostRuntime) -> Result<(), Fail> {
         ("(a)", Some(0)),
         (":not(> a)", Some(0)),
         ("::not()", None),
+        ("#1a", Some(0)),
+        ("a,#-1", Some(2)),
     ];
     for (text, place) in cases {
         assert_eq!(rt; refused(rt.alloc(), text), place, "{text}");
+    }
+    Ok(())
+}
+
+/// A class whose name has 200 bytes.
+fn long_class(alloc: Global) -> Result<String, OutOfMemory> {
+    let mut class = String::new(alloc);
+    class.push_str(".")?;
+    for _ in 0..100 {
+        class.push_str("é")?;
+    }
+    Ok(class)
+}
+
+/// Forty selectors of 30 such classes each, and then the selector `a`.
+fn long_list(alloc: Global) -> Result<String, OutOfMemory> {
+    let class = long_class(alloc)?;
+    let mut text = String::new(alloc);
+    for i in 0..1200 {
+        text.push_str(class.as_str())?;
+        text.push_str(if i % 30 < 29 { ">" } else { "," })?;
+    }
+    text.push_str("a")?;
+    Ok(text)
+}
+
+#[test]
+fn reads_and_writes_a_large_list(rt: HostRuntime) -> Result<(), Fail> {
+    let text = long_list(rt.alloc())?;
+    let parts = prelude(rt.alloc(), text.as_str())?;
+    let list = read_list(rt.alloc(), parts.as_slice(), 999_999, false)?;
+    assert_eq!(rt; list.len(), 41);
+    let mut out = List::new(rt.alloc());
+    write_list(list.as_slice(), &mut out)?;
+    assert!(rt; out.as_slice() == text.as_bytes());
+    let none = Specificity { a: 0, b: 0, c: 0 };
+    for selector in list.as_slice() {
+        let counted = specificity(selector, none);
+        assert!(rt; counted.a == 0 && (counted.b == 30 || counted.c == 1));
     }
     Ok(())
 }

@@ -29,14 +29,14 @@ fn write_behind(mark: &[u8], text: &Text, out: &mut List<u8>) -> Result<(), OutO
 }
 
 /// Writes a name by the identifier serialization of CSSOM, and an empty one as nothing.
-fn write_name(name: &Text, out: &mut List<u8>) -> Result<(), OutOfMemory>
+pub fn write_name(name: &str, out: &mut List<u8>) -> Result<(), OutOfMemory>
     ensures ok { OnOk result (out.new ≡ out.old ++ name_text name.now) }
     ensures err { OnErr result (AppendsFront out.old out.new (name_text name.now)) }
 {
-    if name.as_str().is_empty() {
+    if name.is_empty() {
         return Ok(());
     }
-    css_tokens::write_name(name.as_str(), out)
+    css_tokens::write_name(name, out)
 }
 
 /// Writes a name behind a mark.
@@ -45,7 +45,7 @@ fn write_marked(mark: &[u8], name: &Text, out: &mut List<u8>) -> Result<(), OutO
     ensures err { OnErr result (AppendsFront out.old out.new (mark.now ++ name_text name.now)) }
 {
     write_bytes(mark, out)?;
-    write_name(name, out)
+    write_name(name.as_str(), out)
 }
 
 #[tactic(auto, using(crate::proofs::SpellingTexts::leaf_texts))]
@@ -56,7 +56,7 @@ fn write_type(kind: &TypeName, out: &mut List<u8>) -> Result<(), OutOfMemory>
     match kind {
         TypeName::None => write_bytes(b"", out),
         TypeName::Universal => write_bytes(b"*", out),
-        TypeName::Name(name) => write_name(name, out),
+        TypeName::Name(name) => write_name(name.as_str(), out),
     }
 }
 

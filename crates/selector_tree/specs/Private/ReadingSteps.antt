@@ -23,7 +23,7 @@ use Rattle.selector_tree.specs.declared.reading.Pending.{Pending}
 use Rattle.selector_tree.specs.declared.reading.Listing.{Listing}
 use Rattle.selector_tree.specs.declared.fault.SelectorFault.{SelectorFault}
 use Rattle.selector_tree.specs.Faults.{FaultIs}
-use Rattle.selector_tree.specs.Names.{lowered}
+use Rattle.selector_tree.specs.Names.{pseudo_text}
 use Rattle.selector_tree.specs.Grammar.{Mark, Step, is_old_element, is_gap_sign, is_comma_sign, cut_at_commas, marks_reading, link_of, or_fault, first_and, members_reading}
 
 -- one more compound, and the combinator behind it
@@ -79,8 +79,8 @@ on_pseudo name at (Some t) lead front compound = reading Inside lead front (with
 -- what a name makes of a reading
 abbrev pub on_name : List ℕ → Phase → Option Combinator → Front → Compound → Reading
 on_name name (Dotted at) lead front compound = untailed compound.tail (reading Inside lead front (with_simple compound (simple.Class name) at)) (reading Failed lead front compound)
-on_name name (Coloned at) lead front compound = on_pseudo (lowered name) at compound.tail lead front compound
-on_name name (Doubled at) lead front compound = untailed compound.tail (reading Inside lead front (with_element compound (lowered name))) (reading Failed lead front compound)
+on_name name (Coloned at) lead front compound = on_pseudo (pseudo_text name) at compound.tail lead front compound
+on_name name (Doubled at) lead front compound = untailed compound.tail (reading Inside lead front (with_element compound (pseudo_text name))) (reading Failed lead front compound)
 on_name name phase lead front compound = on_type (types.Name name) phase lead front compound
 
 -- what a `.` makes of a reading: the name of a class has to follow

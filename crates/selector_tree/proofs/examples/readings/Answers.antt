@@ -1,4 +1,6 @@
 use Rattle.std.proofs.Common.{rules}
+use Rattle.std.specs.Str.{chars}
+use lib.Utf8.{encode}
 use Rattle.selector_tree.proofs.Computing.{computing}
 use Rattle.selector_tree.proofs.examples.readings.Goals as goal
 
@@ -6,12 +8,15 @@ pub returns-clause-class_name : goal.returns-clause-class_name
 returns-clause-class_name c = simp computing (search (rules, computing))
 
 pub returns-clause-upper_case : goal.returns-clause-upper_case
+unfolding chars encode
 returns-clause-upper_case c = simp computing (search (rules, computing))
 
 pub returns-clause-element_with_one_colon : goal.returns-clause-element_with_one_colon
+unfolding chars encode
 returns-clause-element_with_one_colon c = simp computing (search (rules, computing))
 
 pub returns-clause-element_with_two_colons : goal.returns-clause-element_with_two_colons
+unfolding chars encode
 returns-clause-element_with_two_colons c = simp computing (search (rules, computing))
 
 pub returns-clause-attribute_value : goal.returns-clause-attribute_value
@@ -24,6 +29,7 @@ pub returns-clause-step : goal.returns-clause-step
 returns-clause-step c = simp computing (search (rules, computing))
 
 pub returns-clause-lang : goal.returns-clause-lang
+unfolding chars encode
 returns-clause-lang c = simp computing (search (rules, computing))
 
 pub returns-clause-list_in_not : goal.returns-clause-list_in_not

@@ -14,5 +14,5 @@ none-long (x ∷ text) h = let e = eqb-true (length (x ∷ text)) 0 h in absurd 
 pub returns-then-is_empty-clause-ok : goal.returns-then-is_empty-clause-ok
 returns-then-is_empty-clause-ok c =
     let out = c.args.out.now in
-    let none : c.args.name.now ≡ [] = sym c.as_str.ensures ∙ none-long c.as_str.result.now (sym c.is_empty.ensures ∙ c.if-is_empty.true) in
+    let none : c.args.name.now ≡ [] = none-long c.args.name.now (sym c.is_empty.ensures ∙ c.if-is_empty.true) in
     sym (append-nil out) ∙ ap (λ (t : List ℕ). out ++ t) (sym no-text) ∙ ap (λ (t : List ℕ). out ++ name_text t) (sym none)
