@@ -17,21 +17,6 @@ use Rattle.css_tokens.specs.declared.content.Part.TheVariants.{Outside, Begun}
 use Rattle.css_tokens.specs.Contents.{step, content, content_from, never}
 use Rattle.css_tokens.proofs.NameTextLemmas.{name_text-chars}
 
--- how far a text is read, and what it adds so far
-abbrev after : Part → List ℕ → Part
-after p [] = p
-after p (b ∷ bs) = after (step never p b).0 bs
-
-abbrev said : Part → List ℕ → List ℕ
-said p [] = []
-said p (b ∷ bs) = (step never p b).1 ++ said (step never p b).0 bs
-
-content-append : (p : Part) (xs ys : List ℕ) → content_from never p (xs ++ ys) ≡ said p xs ++ content_from never (after p xs) ys
-content-append p [] ys = refl
-content-append p (b ∷ bs) ys =
-    ap (λ t. (step never p b).1 ++ t) (content-append (step never p b).0 bs ys)
-    ∙ sym (append_assoc (step never p b).1 (said (step never p b).0 bs) (content_from never (after (step never p b).0 bs) ys))
-
 abbrev is_outside : Part → Bool
 is_outside Outside = true
 is_outside p = false
@@ -40,24 +25,44 @@ outside-eq : (p : Part) → is_outside p ≡ true → p ≡ Outside
 outside-eq Outside h = refl
 outside-eq p h = cc
 
--- the text t means the bytes m, whatever follows
-abbrev Means : List ℕ → List ℕ → Type 0
-Means t m = (rest : List ℕ) → content_from never Outside (t ++ rest) ≡ m ++ content_from never Outside rest
+module _ (ends : ℕ → Bool) where
+  -- how far a text is read, and what it adds so far
+  abbrev after : Part → List ℕ → Part
+  after p [] = p
+  after p (b ∷ bs) = after (step ends p b).0 bs
 
-abbrev means : List ℕ → List ℕ → Bool
-means t m = is_outside (after Outside t) && is_text (said Outside t) m
+  abbrev said : Part → List ℕ → List ℕ
+  said p [] = []
+  said p (b ∷ bs) = (step ends p b).1 ++ said (step ends p b).0 bs
 
-means-Means : (t m : List ℕ) → means t m ≡ true → Means t m
-means-Means t m h rest =
-    let p = and_parts (is_outside (after Outside t)) (is_text (said Outside t) m) h in
-    content-append Outside t rest ∙ ap₂ (λ (s : List ℕ) (q : Part). s ++ content_from never q rest) ((bytes_decides (said Outside t) m).0 p.1) (outside-eq (after Outside t) p.0)
+  content-append : (p : Part) (xs ys : List ℕ) → content_from ends p (xs ++ ys) ≡ said p xs ++ content_from ends (after p xs) ys
+  content-append p [] ys = refl
+  content-append p (b ∷ bs) ys =
+      ap (λ t. (step ends p b).1 ++ t) (content-append (step ends p b).0 bs ys)
+      ∙ sym (append_assoc (step ends p b).1 (said (step ends p b).0 bs) (content_from ends (after (step ends p b).0 bs) ys))
+
+  -- the text t means the bytes m, whatever follows
+  abbrev pub Means : List ℕ → List ℕ → Type 0
+  Means t m = (rest : List ℕ) → content_from ends Outside (t ++ rest) ≡ m ++ content_from ends Outside rest
+
+  abbrev pub means : List ℕ → List ℕ → Bool
+  means t m = is_outside (after Outside t) && is_text (said Outside t) m
+
+  pub means-Means : (t m : List ℕ) → means t m ≡ true → Means t m
+  means-Means t m h rest =
+      let p = and_parts (is_outside (after Outside t)) (is_text (said Outside t) m) h in
+      content-append Outside t rest ∙ ap₂ (λ (s : List ℕ) (q : Part). s ++ content_from ends q rest) ((bytes_decides (said Outside t) m).0 p.1) (outside-eq (after Outside t) p.0)
+
+  pub Means-append : (s t a b : List ℕ) → Means s a → Means t b → Means (s ++ t) (a ++ b)
+  Means-append s t a b h k rest =
+      ap (content_from ends Outside) (append_assoc s t rest) ∙ h (t ++ rest) ∙ ap (λ u. a ++ u) (k rest) ∙ sym (append_assoc a b (content_from ends Outside rest))
 
 -- ASCII: by a table
 abbrev pub char_means : ℕ → Bool
-char_means c = nat_eq c 0 || means (char_text c) (c ∷ [])
+char_means c = nat_eq c 0 || means never (char_text c) (c ∷ [])
 
 abbrev first_means : ℕ → Bool
-first_means c = nat_eq c 0 || means (first_text c) (c ∷ [])
+first_means c = nat_eq c 0 || means never (first_text c) (c ∷ [])
 
 abbrev pub always : ℕ → Bool
 always c = true
@@ -70,7 +75,7 @@ first_table : (c : ℕ) → c < 128 → first_means c ≡ true
 unfolding digits encode
 first_table c l = agree_below_at first_means always 128 c refl l
 
-mark_table : means (code_escape 0xFEFF) (encode 0xFEFF) ≡ true
+mark_table : means never (code_escape 0xFEFF) (encode 0xFEFF) ≡ true
 unfolding digits encode
 mark_table = refl
 
@@ -78,7 +83,7 @@ mark_table = refl
 abbrev is_itself : ℕ → Bool
 is_itself b = not (nat_eq b 92)
 
-plain-Means : (t : List ℕ) → list_all is_itself t ≡ true → Means t t
+plain-Means : (t : List ℕ) → list_all is_itself t ≡ true → Means never t t
 plain-Means [] h rest = refl
 plain-Means (b ∷ t) h rest =
     let p = and_parts (is_itself b) (list_all is_itself t) h in
@@ -138,56 +143,52 @@ by_table true b h k = cc
 by_table false b h k = k
 
 -- the text of a character means it
-char-Means : (c : ℕ) → nat_eq c 0 ≡ false → Means (char_text c) (encode_utf8 c)
+char-Means : (c : ℕ) → nat_eq c 0 ≡ false → Means never (char_text c) (encode_utf8 c)
 char-Means c n = elim (cases_Bool (ltb c 128)) [
   | inl e ↦
       let l = ltb-true c 128 e in
-      subst (Means (char_text c)) (sym (encode_ascii c l)) (means-Means (char_text c) (c ∷ []) (by_table (nat_eq c 0) (means (char_text c) (c ∷ [])) n (char_table c l)))
+      subst (Means never (char_text c)) (sym (encode_ascii c l)) (means-Means never (char_text c) (c ∷ []) (by_table (nat_eq c 0) (means never (char_text c) (c ∷ [])) n (char_table c l)))
   | inr e ↦
       let l = ltb-false c 128 e in
       elim (cases_Bool (nat_eq c 0xFEFF)) [
-        | inl f ↦ subst (λ (x : ℕ). Means (char_text x) (encode_utf8 x)) (sym (eqb-true c 0xFEFF f)) (means-Means (code_escape 0xFEFF) (encode 0xFEFF) mark_table)
-        | inr f ↦ subst (λ t. Means t (encode_utf8 c)) (sym (high_itself c l (λ g. false≢true (sym f ∙ ap (λ (x : ℕ). nat_eq x 0xFEFF) g)))) (plain-Means (encode c) (high_plain (encode c) (high_encode c l).3))
+        | inl f ↦ subst (λ (x : ℕ). Means never (char_text x) (encode_utf8 x)) (sym (eqb-true c 0xFEFF f)) (means-Means never (code_escape 0xFEFF) (encode 0xFEFF) mark_table)
+        | inr f ↦ subst (λ t. Means never t (encode_utf8 c)) (sym (high_itself c l (λ g. false≢true (sym f ∙ ap (λ (x : ℕ). nat_eq x 0xFEFF) g)))) (plain-Means (encode c) (high_plain (encode c) (high_encode c l).3))
       ]
 ]
 
-first-Means : (c : ℕ) → nat_eq c 0 ≡ false → Means (first_text c) (encode_utf8 c)
+first-Means : (c : ℕ) → nat_eq c 0 ≡ false → Means never (first_text c) (encode_utf8 c)
 first-Means c n = elim (cases_Bool (ltb c 128)) [
   | inl e ↦
       let l = ltb-true c 128 e in
-      subst (Means (first_text c)) (sym (encode_ascii c l)) (means-Means (first_text c) (c ∷ []) (by_table (nat_eq c 0) (means (first_text c) (c ∷ [])) n (first_table c l)))
-  | inr e ↦ subst (λ t. Means t (encode_utf8 c)) (sym (high_first c (ltb-false c 128 e))) (char-Means c n)
+      subst (Means never (first_text c)) (sym (encode_ascii c l)) (means-Means never (first_text c) (c ∷ []) (by_table (nat_eq c 0) (means never (first_text c) (c ∷ [])) n (first_table c l)))
+  | inr e ↦ subst (λ t. Means never t (encode_utf8 c)) (sym (high_first c (ltb-false c 128 e))) (char-Means c n)
 ]
-
-Means-append : (s t a b : List ℕ) → Means s a → Means t b → Means (s ++ t) (a ++ b)
-Means-append s t a b h k rest =
-    ap (content_from never Outside) (append_assoc s t rest) ∙ h (t ++ rest) ∙ ap (λ u. a ++ u) (k rest) ∙ sym (append_assoc a b (content_from never Outside rest))
 
 -- no character is zero
 abbrev pub is_charred : List ℕ → Bool
 is_charred cs = list_all (λ c. not (nat_eq c 0)) cs
 
-chars-Means : (cs : List ℕ) → is_charred cs ≡ true → Means (flat_map char_text cs) (encodes cs)
+chars-Means : (cs : List ℕ) → is_charred cs ≡ true → Means never (flat_map char_text cs) (encodes cs)
 chars-Means [] h = λ rest. refl
 chars-Means (c ∷ cs) h =
     let p = and_parts (not (nat_eq c 0)) (is_charred cs) h in
-    Means-append (char_text c) (flat_map char_text cs) (encode_utf8 c) (encodes cs) (char-Means c (not-true (nat_eq c 0) p.0)) (chars-Means cs p.1)
+    Means-append never (char_text c) (flat_map char_text cs) (encode_utf8 c) (encodes cs) (char-Means c (not-true (nat_eq c 0) p.0)) (chars-Means cs p.1)
 
-dash-Means : (cs : List ℕ) → is_charred cs ≡ true → Means (after_dash cs) (encodes cs)
+dash-Means : (cs : List ℕ) → is_charred cs ≡ true → Means never (after_dash cs) (encodes cs)
 dash-Means [] h = λ rest. refl
 dash-Means (c ∷ cs) h =
     let p = and_parts (not (nat_eq c 0)) (is_charred cs) h in
-    Means-append (first_text c) (flat_map char_text cs) (encode_utf8 c) (encodes cs) (first-Means c (not-true (nat_eq c 0) p.0)) (chars-Means cs p.1)
+    Means-append never (first_text c) (flat_map char_text cs) (encode_utf8 c) (encodes cs) (first-Means c (not-true (nat_eq c 0) p.0)) (chars-Means cs p.1)
 
-rest-Means : (b : Bool) (cs : List ℕ) → is_charred cs ≡ true → Means (cond b (after_dash cs) (flat_map char_text cs)) (encodes cs)
+rest-Means : (b : Bool) (cs : List ℕ) → is_charred cs ≡ true → Means never (cond b (after_dash cs) (flat_map char_text cs)) (encodes cs)
 rest-Means true cs h = dash-Means cs h
 rest-Means false cs h = chars-Means cs h
 
-text-Means : (cs : List ℕ) → is_charred cs ≡ true → Means (chars_text cs) (encodes cs)
+text-Means : (cs : List ℕ) → is_charred cs ≡ true → Means never (chars_text cs) (encodes cs)
 text-Means [] h = λ rest. refl
 text-Means (c ∷ cs) h =
     let p = and_parts (not (nat_eq c 0)) (is_charred cs) h in
-    Means-append (first_text c) (cond (eqb c 45) (after_dash cs) (flat_map char_text cs)) (encode_utf8 c) (encodes cs) (first-Means c (not-true (nat_eq c 0) p.0)) (rest-Means (eqb c 45) cs p.1)
+    Means-append never (first_text c) (cond (eqb c 45) (after_dash cs) (flat_map char_text cs)) (encode_utf8 c) (encodes cs) (first-Means c (not-true (nat_eq c 0) p.0)) (rest-Means (eqb c 45) cs p.1)
 
 -- the text of a name means the name
 pub name_content : (n : List ℕ) → IsUtf8 n → is_charred (chars n) ≡ true → content never (name_text n) ≡ n

@@ -2,7 +2,7 @@
 use Rattle.std.proofs.Common.{◌≡◌, ℕ, ◌+◌, ◌-◌, ◌*◌, ◌<◌, List, [], ◌∷◌, ◌++◌, length, Bool, true, false, not, ◌&&◌, ◌||◌, cond, refl, sym, ap, ap₂, ◌∙◌, subst, inl, inr, Some, None, arith, append_assoc, append-nil, length-append, codes, nat_eq, nat_lt, ltb, ltb-true, ltb-false}
 use Rattle.std.proofs.lemmas.Bool.{cases_Bool, and_parts, or_cases, not-true, eqb-true}
 use Rattle.std.proofs.lemmas.Bool.Decides.{nat_tests}
-use Rattle.std.proofs.lemmas.Str.{encode_ascii, encodes-chars, encodes-append, chars-encodes, length-encode, len_utf8_bounds, scalars-chars, is_utf8-from_IsUtf8}
+use Rattle.std.proofs.lemmas.Str.{IsUtf8-past_char, encode_ascii, encodes-chars, encodes-append, chars-encodes, length-encode, len_utf8_bounds, scalars-chars, is_utf8-from_IsUtf8}
 use Rattle.std.specs.Char.{encode_utf8, digit_value, is_ascii_hexdigit}
 use Rattle.std.specs.Str.{IsUtf8, chars}
 use lib.Utf8.{encode, encodes, scalar, scalars}
@@ -20,8 +20,8 @@ use Rattle.css_tokens.specs.declared.machine.Holder.TheVariants as holder
 use Rattle.css_tokens.specs.declared.machine.State.{State}
 use Rattle.css_tokens.specs.declared.machine.State.TheVariants as state
 use Rattle.css_tokens.specs.Characters.{class_of}
-use Rattle.css_tokens.specs.Contents.{content, content_from, flush, is_space, meant, never, outside, step}
-use Rattle.css_tokens.specs.Names.{is_name}
+use Rattle.css_tokens.specs.Contents.{content, content_from, flush, is_quote, is_space, meant, never, outside, step}
+use Rattle.css_tokens.specs.Names.{after_byte, is_content, is_name, name_of_word, quote_of}
 use Rattle.css_tokens.specs.Private.Contents.{ends_of}
 use Rattle.css_tokens.specs.Private.Machine.{next, ended}
 use Rattle.css_tokens.specs.Tokens.{classes_of, is_control, spells}
@@ -162,7 +162,7 @@ run_dead : (t : List Class) → run state.Dead t ≡ state.Dead
 run_dead [] = refl
 run_dead (x ∷ t) = run_dead t
 
-dead_end : (s : State) (t : List Class) (k : Kind) → s ≡ state.Dead → ended (run s t) [] ≡ Some k → ⊥
+pub dead_end : (s : State) (t : List Class) (k : Kind) → s ≡ state.Dead → ended (run s t) [] ≡ Some k → ⊥
 dead_end s t k e h = let f : None ≡ Some k = sym (ap (λ r. ended r []) (ap (λ r. run r t) e ∙ run_dead t)) ∙ h in cc
 
 module _ (s : State) (k : Kind) (i : Holder) (empty : ended s [] ≡ Some k → ⊥) (back : next s class.Backslash ≡ state.Escaped i escape.Begun) (unclosed : ended (state.Escaped i escape.Begun) [] ≡ Some k → ⊥) (feed : next (state.Escaped i escape.Begun) class.Feed ≡ state.Dead) (returned : next (state.Escaped i escape.Begun) class.Return ≡ state.Dead) (form : next (state.Escaped i escape.Begun) class.FormFeed ≡ state.Dead) where
@@ -203,7 +203,7 @@ module _ (s : State) (k : Kind) (i : Holder) (empty : ended s [] ≡ Some k → 
 
 -- No token has U+0000.
 
-run_clean : (s : State) (t : List ℕ) (k : Kind) → ended (run s (classes_of t)) [] ≡ Some k → is_clean t ≡ true
+pub run_clean : (s : State) (t : List ℕ) (k : Kind) → ended (run s (classes_of t)) [] ≡ Some k → is_clean t ≡ true
 run_clean s [] k h = refl
 run_clean s (b ∷ t) k h = elim (cases_Bool (is_control b)) [
   | inl e ↦ absurd (dead_end (next s (class_of b)) (classes_of t) k (ap (next s) (sym (is_class-eq class.Control (class_of b) e)) ∙ dead_control s) h)
@@ -227,18 +227,23 @@ clean_charred (c ∷ cs) h =
       | inr e ↦ ap₂ ◌&&◌ (ap not e) (clean_charred cs p.1)
     ]
 
--- what is made of characters, and of some, is a name
+-- what is made of characters is a content, and a name where there is some
+chars_content : (t : List ℕ) → IsChars t → is_content t ≡ true
+chars_content t h =
+    let e : chars t ≡ h.0 = ap chars (sym h.3) ∙ chars-encodes h.0 h.1 in
+    ap₂ ◌&&◌ (is_utf8-from_IsUtf8 t (h.0, (h.1, h.3))) (ap is_charred e ∙ h.2)
+
 chars_name : (t : List ℕ) → IsChars t → (t ≡ [] → ⊥) → is_name t ≡ true
 chars_name [] h f = absurd (f refl)
-chars_name (b ∷ t) h f =
-    let e : chars (b ∷ t) ≡ h.0 = ap chars (sym h.3) ∙ chars-encodes h.0 h.1 in
-    ap₂ ◌&&◌ (is_utf8-from_IsUtf8 (b ∷ t) (h.0, (h.1, h.3))) (ap is_charred e ∙ h.2)
+chars_name (b ∷ t) h f = chars_content (b ∷ t) h
+
+text_chars : (e : End) (t : List ℕ) → IsUtf8 t → is_clean t ≡ true → IsChars (content (ends_of e) t)
+text_chars e t u c =
+    let z = clean_charred (chars t) (ap is_clean (encodes-chars t u) ∙ c) in
+    subst (λ x. IsChars (content (ends_of e) x)) (encodes-chars t u) (content_chars e Outside (chars t) (scalars-chars t u) z)
 
 text_name : (s : State) (t : List ℕ) (k : Kind) → IsUtf8 t → ended (run s (classes_of t)) [] ≡ Some k → (content never t ≡ [] → ⊥) → is_name (content never t) ≡ true
-text_name s t k u h f =
-    let c = run_clean s t k h in
-    let z = clean_charred (chars t) (ap is_clean (encodes-chars t u) ∙ c) in
-    chars_name (content never t) (subst (λ x. IsChars (content never x)) (encodes-chars t u) (content_chars end.Never Outside (chars t) (scalars-chars t u) z)) f
+text_name s t k u h f = chars_name (content never t) (text_chars end.Never t u (run_clean s t k h)) f
 
 -- the decoded name of an Ident
 pub ident_name : (t : List ℕ) → IsUtf8 t → spells kind.Ident t ≡ true → is_name (content never t) ≡ true
@@ -257,3 +262,36 @@ pub at_name : (t : List ℕ) → IsUtf8 t → spells kind.At (codes "@" ++ t) �
 at_name t u h =
     let e = spelled_state (codes "@" ++ t) kind.At refl h in
     text_name state.At t kind.At u e (name_some state.At kind.At holder.AtName (λ z. cc) refl (λ z. cc) refl refl refl t e)
+
+-- The content of a String.
+
+quote_end : ℕ → End
+quote_end b = cond (nat_eq b 34) end.DoubleQuote end.SingleQuote
+
+behind_quote : (b : ℕ) (t : List ℕ) → IsUtf8 (b ∷ t) → is_clean (b ∷ t) ≡ true → IsUtf8 (after_byte (quote_of (b ∷ t)) (b ∷ t)) × (is_clean (after_byte (quote_of (b ∷ t)) (b ∷ t)) ≡ true)
+behind_quote b t u c = elim (cases_Bool (nat_eq b (quote_of (b ∷ t)))) [
+  | inl e ↦
+      subst (λ (x : Bool). IsUtf8 (cond x t (b ∷ t)) × (is_clean (cond x t (b ∷ t)) ≡ true)) (sym e)
+      (past_quote (nat_eq b 34) e, (and_parts (not (is_control b)) (is_clean t) c).1)
+  | inr e ↦ subst (λ (x : Bool). IsUtf8 (cond x t (b ∷ t)) × (is_clean (cond x t (b ∷ t)) ≡ true)) (sym e) (u, c)
+]
+  where
+    low_quote : (x : Bool) → nat_eq b (cond x 34 39) ≡ true → b < 128
+    low_quote true e = let i = eqb-true b 34 e in omega arith
+    low_quote false e = let i = eqb-true b 39 e in omega arith
+
+    past_quote : (x : Bool) → nat_eq b (cond x 34 39) ≡ true → IsUtf8 t
+    past_quote x e = IsUtf8-past_char (b ∷ t) t b u (ap (λ s. s ++ t) (sym (encode_ascii b (low_quote x e))))
+
+ends_quote : (x : Bool) → is_quote (cond x 34 39) ≡ ends_of (cond x end.DoubleQuote end.SingleQuote)
+ends_quote true = refl
+ends_quote false = refl
+
+-- the decoded content of a String
+pub string_content : (t : List ℕ) → IsUtf8 t → spells kind.String t ≡ true → is_content (name_of_word kind.String t) ≡ true
+string_content [] u h = let e = spelled_state [] kind.String refl h in cc
+string_content (b ∷ t) u h =
+    let p = behind_quote b t u (run_clean state.Start (b ∷ t) kind.String (spelled_state (b ∷ t) kind.String refl h)) in
+    let text = after_byte (quote_of (b ∷ t)) (b ∷ t) in
+    subst (λ ends. is_content (content ends text) ≡ true) (sym (ends_quote (nat_eq b 34)))
+    (chars_content _ (text_chars (cond (nat_eq b 34) end.DoubleQuote end.SingleQuote) text p.0 p.1))

@@ -8,6 +8,7 @@ pub mod Derivatives
 pub mod Firsts
 pub mod Evens
 pub mod Fronts
+pub mod IdentStarts
 pub mod Kept
 pub mod MachineRows
 pub mod MachineStates
@@ -18,6 +19,7 @@ pub mod Runs
 mod Scans
 pub mod Said
 pub mod Spelling
+pub mod StringSpelling
 pub mod Stays
 pub mod Takes
 pub mod TakesSpace
@@ -48,3 +50,4 @@ pub mod Beginnings
 pub mod ValueReads
 pub mod UrlNames
 pub mod Within
+pub mod NumberStays

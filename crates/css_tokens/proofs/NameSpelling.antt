@@ -33,12 +33,12 @@ use Rattle.css_tokens.proofs.Runs.{run, kind_of-run, one_more}
 use Rattle.css_tokens.proofs.Stays.{stays_by, dies_by, none_taken, not_function}
 use Rattle.css_tokens.proofs.Takes.{run-append}
 
-run_more : (s : State) (a b : List ℕ) → run s (classes_of (a ++ b)) ≡ run (run s (classes_of a)) (classes_of b)
+pub run_more : (s : State) (a b : List ℕ) → run s (classes_of (a ++ b)) ≡ run (run s (classes_of a)) (classes_of b)
 run_more s a b = ap (run s) (map-append class_of a b) ∙ run-append s (classes_of a) (classes_of b)
 
 -- The characters from U+0080 on.
 
-high_class : (b : ℕ) → is_high b ≡ true → class_of b ≡ class.High
+pub high_class : (b : ℕ) → is_high b ≡ true → class_of b ≡ class.High
 high_class b h = grind (arith, nat_tests)
 
 high_stays : (s : State) (bs : List ℕ) → next s class.High ≡ s → list_all is_high bs ≡ true → run s (classes_of bs) ≡ s
@@ -257,7 +257,7 @@ read_ended : (s : State) (t : List ℕ) → IsRead s t → ended s [] ≡ Some k
 read_ended s t (inl e) = ap (λ r. ended r []) e
 read_ended s t (inr e) = ap (λ r. ended r []) e.0
 
-or_true : (a b : Bool) → a ≡ true → (a || b) ≡ true
+pub or_true : (a b : Bool) → a ≡ true → (a || b) ≡ true
 or_true a b h = ap (λ x. x || b) h
 
 -- the text of a name spells an Ident

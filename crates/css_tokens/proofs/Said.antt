@@ -42,7 +42,7 @@ high_space b h = grind (arith, nat_tests)
 high_hex : (b : ℕ) → is_high b ≡ true → is_ascii_hexdigit b ≡ false
 high_hex b h = grind (arith, nat_tests)
 
-high_outside : (e : End) (b : ℕ) → is_high b ≡ true → outside (ends_of e) b ≡ (Outside, b ∷ [])
+pub high_outside : (e : End) (b : ℕ) → is_high b ≡ true → outside (ends_of e) b ≡ (Outside, b ∷ [])
 high_outside e b h = rw (high_end e b h) (rw (high_slash b h) refl)
 
 high_digits : (e : End) (b : ℕ) → is_high b ≡ true → behind_digits (ends_of e) b ≡ (Outside, b ∷ [])

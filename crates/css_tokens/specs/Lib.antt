@@ -7,11 +7,13 @@ pub mod Kinds
 pub mod Patterns
 pub mod Appends
 pub mod NameText
+pub mod Numbers
 pub mod Names
 pub mod Pairing
 pub mod Piece
 pub mod PlainNames
 pub mod Refusals
+pub mod StringText
 pub mod Samples
 pub mod Texts
 pub mod Tokens

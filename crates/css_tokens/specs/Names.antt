@@ -1,15 +1,34 @@
 -- The name that a token holds (CSS Syntax 3, section 4).
-use Rattle.std.specs.Prelude.{ℕ, List, [], ◌∷◌, not, ◌&&◌, Bool, true, false, ◌==◌, if◌then◌else◌}
+use Rattle.std.specs.Prelude.{ℕ, List, [], ◌∷◌, not, ◌&&◌, ◌||◌, Bool, true, false, ◌==◌, if◌then◌else◌, nat_le}
+use Rattle.std.specs.Char.{is_ascii_alphabetic}
 use Rattle.css_tokens.specs.declared.kind.Kind.{Kind}
 use Rattle.css_tokens.specs.declared.kind.Kind.TheVariants.{White, Comment, Ident, Function, Url, At, Hash, String, Number, Percentage, Dimension, Colon, Semicolon, Comma, Open, Close, Delim, Cdo, Cdc}
 use Rattle.std.specs.List.{list_all}
 use Rattle.std.specs.Str.{chars, is_utf8}
 use Rattle.css_tokens.specs.Contents.{content, ends_url, is_paren, is_quote, is_space, never}
 
--- is it a name: not empty, in UTF-8, and without U+0000?
+-- is it what a token may mean: in UTF-8, and without U+0000?
+abbrev pub is_content : List ℕ → Bool
+is_content text = is_utf8 text && list_all (λ c. not (c == 0)) (chars text)
+
+-- is it a name: a content that is not empty?
 abbrev pub is_name : List ℕ → Bool
 is_name [] = false
-is_name (b ∷ bs) = is_utf8 (b ∷ bs) && list_all (λ c. not (c == 0)) (chars (b ∷ bs))
+is_name (b ∷ bs) = is_content (b ∷ bs)
+
+-- an ASCII letter, `_`, a byte of a character from U+0080 on, or the `\` of an escape
+abbrev pub is_name_start : ℕ → Bool
+is_name_start b = is_ascii_alphabetic b || (b == 95 || (b == 92 || nat_le 128 b))
+
+-- after a first `-`: a second one or a name start
+abbrev pub starts_behind_dash : List ℕ → Bool
+starts_behind_dash [] = false
+starts_behind_dash (b ∷ bs) = b == 45 || is_name_start b
+
+-- would the text start an identifier, where it has no `\` but in escapes? (section 4.3.9)
+abbrev pub starts_ident : List ℕ → Bool
+starts_ident [] = false
+starts_ident (b ∷ bs) = is_name_start b || (b == 45 && starts_behind_dash bs)
 
 -- does a token of this kind hold a name?
 abbrev pub has_name : Kind → Bool

@@ -7,6 +7,7 @@ ghost use Rattle.css_tokens.specs.Contents.{content, is_paren, never};
 ghost use Rattle.css_tokens.specs.Names.{name_of_word};
 ghost use Rattle.css_tokens.specs.Pairing.{awaited, depth};
 ghost use Rattle.css_tokens.specs.Samples.{brackets, word};
+ghost use Rattle.css_tokens.specs.StringText.{string_text};
 ghost use Rattle.css_tokens.specs.Tokens.{first_front, spells};
 ghost use Rattle.css_tokens.specs.Values.{printed_words};
 
@@ -129,4 +130,15 @@ pub fn names_of_tokens()
     ensures string { name_of_word quoted (codes "'a\"b'") ≡ codes "a\"b" }
     ensures url { name_of_word Url (codes "URL( a.png\n)") ≡ codes "a.png" }
     ensures empty_url { name_of_word Url (codes "url()") ≡ [] }
+{}
+
+/// How texts print as strings: `"`, `\` and control characters are escaped, and nothing else is.
+pub fn strings()
+    ensures plain { string_text (codes "a 'b'") ≡ codes "\"a 'b'\"" }
+    ensures empty { string_text [] ≡ codes "\"\"" }
+    ensures quote { string_text (codes "\"") ≡ codes "\"\\\"\"" }
+    ensures backslash { string_text (codes "\\") ≡ codes "\"\\\\\"" }
+    ensures line_feed { string_text (codes "a\nb") ≡ codes "\"a\\a b\"" }
+    ensures delete { string_text (0x7F ∷ []) ≡ codes "\"\\7f \"" }
+    ensures two_bytes { string_text (0xC3 ∷ 0xA9 ∷ []) ≡ 34 ∷ 0xC3 ∷ 0xA9 ∷ 34 ∷ [] }
 {}

@@ -1,5 +1,5 @@
 ghost use Rattle.std.specs.Prelude.{ℕ, List, ◌∷◌, [], ◌++◌, ◌≡◌, ◌≢◌, ◌≤◌, ◌⊎◌, IsTrue, true, false, codes, length, map};
-ghost use Rattle.std.specs.List.{AllByRecursion, list_all};
+ghost use Rattle.std.specs.List.{AllByRecursion, list_all, list_any};
 ghost use Rattle.std.specs.Str.{IsUtf8, str_to_ascii_lowercase};
 ghost use Rattle.css_tokens.specs.declared.component.Component.{Component};
 ghost use Rattle.css_tokens.specs.declared.class.Class.TheVariants as class;
@@ -8,10 +8,13 @@ ghost use Rattle.css_tokens.specs.declared.pairing.ComponentFault.{ComponentFaul
 ghost use Rattle.css_tokens.specs.Again.{StaysFirst, Alike, KeepsQuote, is_solid, is_stop, is_end_kind, word_from, marks, begins_none, after_ident, after_name, more_name, takes, digit, digit_or_dot};
 ghost use Rattle.css_tokens.specs.Characters.{white};
 ghost use Rattle.css_tokens.specs.NameText.{name_text};
-ghost use Rattle.css_tokens.specs.Names.{is_name, name_of_word};
+ghost use Rattle.css_tokens.specs.Names.{is_content, is_name, name_of_word, starts_ident};
 ghost use Rattle.css_tokens.specs.Pairing.{IsBracketFault, IsMismatch, IsPaired, IsTooDeep, IsUnclosed, places_rise};
 ghost use Rattle.css_tokens.specs.Piece.{Piece, Word, spelled, word_of};
-ghost use Rattle.css_tokens.specs.Tokens.{First, IsPlaced, Reads, ReadsTo, StopsAt, classes_of, is_url, mark_length, quote_follows, spells};
+ghost use Rattle.css_tokens.specs.StringText.{string_text};
+ghost use Rattle.css_tokens.specs.Numbers.{after_number, is_digits, is_sign};
+ghost use Rattle.css_tokens.specs.PlainNames.{is_plain};
+ghost use Rattle.css_tokens.specs.Tokens.{First, IsPlaced, Reads, ReadsTo, StopsAt, classes_of, is_control, is_url, mark_length, quote_follows, spells};
 ghost use Rattle.css_tokens.specs.Trees.{words_all, all_formed, is_text, pieces_all};
 ghost use Rattle.css_tokens.specs.Values.{is_gap, value_words, value_text};
 
@@ -95,6 +98,22 @@ pub fn names_spell()
     ensures first { (t : List ℕ) (w : Word) → First t w → spells w.kind w.text ≡ true }
 {}
 
+/// What stands behind the `#` of a Hash spells an Ident where it would start one, and nowhere else (CSS Syntax 3, section
+/// 4.3.9).
+pub fn ids_spell()
+    ensures { (t : List ℕ) → spells kind.Hash (codes "#" ++ t) ≡ true → spells kind.Ident t ≡ starts_ident t }
+{}
+
+/// The string of a content spells a String and means the content again; it is in UTF-8 and holds no control character. What
+/// a String in UTF-8 holds, its escapes decoded, is a content.
+pub fn strings_spell()
+    ensures string { (t : List ℕ) → is_content t ≡ true → spells kind.String (string_text t) ≡ true }
+    ensures again { (t : List ℕ) → is_content t ≡ true → name_of_word kind.String (string_text t) ≡ t }
+    ensures utf8 { (t : List ℕ) → IsUtf8 t → IsUtf8 (string_text t) }
+    ensures clean { (t : List ℕ) → is_content t ≡ true → list_any is_control (string_text t) ≡ false }
+    ensures decoded { (t : List ℕ) → IsUtf8 t → spells kind.String t ≡ true → is_content (name_of_word kind.String t) ≡ true }
+{}
+
 /// What stands next to the text of a name: it begins with no digit, `.` or white space; it takes no white space that
 /// follows; one other than `--` stays an Ident before a `>` too; and a `+` stays a Delim before a `.` that begins no number.
 pub fn names_stay()
@@ -105,4 +124,10 @@ pub fn names_stay()
     ensures child { (n rest : List ℕ) → is_name n ≡ true → name_text n ≢ codes "--" → begins_none after_name rest ≡ true → StaysFirst (word_from kind.Ident (name_text n)) rest }
     ensures hash { (n rest : List ℕ) → is_name n ≡ true → begins_none more_name rest ≡ true → StaysFirst (word_from kind.Hash (codes "#" ++ name_text n)) rest }
     ensures plus_dot { (rest : List ℕ) → begins_none digit rest ≡ true → StaysFirst (word_from kind.Delim (codes "+")) (codes "." ++ rest) }
+{}
+
+/// Which text may follow a number or a dimension of an integer so that it stays the first token (CSS Syntax 3, section 4.3.3).
+pub fn numbers_stay()
+    ensures number { (sign ds rest : List ℕ) → is_sign sign ≡ true → is_digits ds ≡ true → begins_none after_number rest ≡ true → StaysFirst (word_from kind.Number (sign ++ ds)) rest }
+    ensures dimension { (sign ds w rest : List ℕ) → is_sign sign ≡ true → is_digits ds ≡ true → list_all is_plain w ≡ true → begins_none more_name rest ≡ true → StaysFirst (word_from kind.Dimension (sign ++ (ds ++ 110 ∷ w))) rest }
 {}

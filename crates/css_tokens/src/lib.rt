@@ -24,15 +24,15 @@ mod value;
 pub use component::{Block, Component, copy_all};
 pub use kind::Kind;
 pub use laws::{
-    names_spell, names_stay, one_bracket_fault, one_reading, places_rise_in_a_text, some_pairing,
-    some_reading, values_again, words_again,
+    ids_spell, names_spell, names_stay, numbers_stay, one_bracket_fault, one_reading,
+    places_rise_in_a_text, some_pairing, some_reading, strings_spell, values_again, words_again,
 };
 pub use list::List;
 pub use memory::OutOfMemory;
 pub use name::name_of;
 pub use pairing::{ComponentFault, components, one_pairing};
 pub use plain::is_plain_name;
-pub use print::{plain_name, write_name};
+pub use print::{plain_name, write_name, write_string};
 pub use reader::{TokenFault, tokens};
 pub use text::Text;
 pub use token::Token;

@@ -1,8 +1,9 @@
-ghost use Rattle.std.specs.Prelude.{◌≡◌, ◌≢◌, ◌⊎◌, ◌<◌, if◌then◌else◌, ℕ, [], ◌∷◌, ◌++◌, IsTrue, OnOk, OnErr, codes, true, false};
+ghost use Rattle.std.specs.Prelude.{◌≡◌, ◌≢◌, ◌⊎◌, ◌<◌, if◌then◌else◌, ℕ, [], ◌∷◌, ◌++◌, IsTrue, OnOk, OnErr, codes, flat_map, true, false};
 ghost use Rattle.std.specs.Fmt.{digit_glyph};
 ghost use Rattle.css_tokens.specs.Appends.{AppendsFront};
 ghost use Rattle.css_tokens.specs.NameText.{name_text, code_escape, char_text, first_text, needs_code, stands_for_itself};
 ghost use Rattle.css_tokens.specs.PlainNames.{is_plain_name};
+ghost use Rattle.css_tokens.specs.StringText.{string_byte, string_text};
 ghost use Rattle.css_tokens.specs.Private.NamePlaces.{place_after, is_early};
 
 use crate::plain::is_plain_name;
@@ -135,6 +136,40 @@ fn write_chars(name: &str, out: &mut List<u8>) -> Result<(), OutOfMemory>
         place = place.after(c);
     }
     Ok(())
+}
+
+/// Appends a byte of a string.
+fn write_string_byte(byte: u8, out: &mut List<u8>) -> Result<(), OutOfMemory>
+    ensures ok { OnOk result (out.new ≡ out.old ++ string_byte byte) }
+    ensures err { OnErr result (out.new ≡ out.old) }
+{
+    match byte {
+        1..=0x1f | 0x7f => write_ascii_escape(byte, out),
+        b'"' | b'\\' => out.extend_from_slice(&[b'\\', byte]),
+        _ => out.push(byte),
+    }
+}
+
+/// Appends what stands between the quotes of a string.
+fn write_content(bytes: &[u8], out: &mut List<u8>) -> Result<(), OutOfMemory>
+    ensures ok { OnOk result (out.new ≡ out.old ++ flat_map string_byte bytes.now) }
+    ensures err { OnErr result (AppendsFront out.old out.new (flat_map string_byte bytes.now)) }
+{
+    for byte in bytes {
+        write_string_byte(*byte, out)?;
+    }
+    Ok(())
+}
+
+/// Appends a text as a string in double quotes, by the string serialization of CSSOM (section 2.1). Where memory runs
+/// out, a front of the string is appended.
+pub fn write_string(text: &str, out: &mut List<u8>) -> Result<(), OutOfMemory>
+    ensures ok { OnOk result (out.new ≡ out.old ++ string_text text.now) }
+    ensures err { OnErr result (AppendsFront out.old out.new (string_text text.now)) }
+{
+    out.push(b'"')?;
+    write_content(text.as_bytes(), out)?;
+    out.push(b'"')
 }
 
 /// A name of ASCII letters, digits, `_` and `-` that spells an Ident prints as it is.

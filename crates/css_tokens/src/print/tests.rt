@@ -33,6 +33,14 @@ fn writes_names(rt: HostRuntime) -> Result<(), OutOfMemory> {
 }
 
 #[test]
+fn writes_strings(rt: HostRuntime) -> Result<(), OutOfMemory> {
+    let mut out = List::new(rt.alloc());
+    write_string("a\"\\\n\u{e9}", &mut out)?;
+    assert_eq!(rt; out.as_slice(), "\"a\\\"\\\\\\a \u{e9}\"".as_bytes());
+    Ok(())
+}
+
+#[test]
 fn writes_a_long_name(rt: HostRuntime) -> Result<(), Fail> {
     let alloc = rt.alloc();
     let mut name = String::new(alloc);
