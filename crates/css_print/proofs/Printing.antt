@@ -10,8 +10,8 @@ use Rattle.css_rules.specs.declared.sheet.Item.TheOpen.{Item-F}
 use Rattle.css_rules.specs.declared.sheet.Item.TheOpen as inner
 use Rattle.css_rules.specs.declared.sheet.Item.TheFolds.{fold_out-Item}
 use Rattle.css_rules.specs.declared.sheet.Style.{Style, fold-Style}
-use Rattle.css_rules.specs.BareSelectors.{BareSelector, bare_list}
-use Rattle.css_rules.specs.SelectorTexts.{list_text}
+use Rattle.selector_tree.specs.declared.selector.Selector.{Selector}
+use Rattle.selector_tree.specs.Spelling.{list_text}
 use Rattle.css_rules.specs.SheetTexts.{ItemText, block_text, braced_text, declaration_text, ended_declarations, item_text, more_declarations, printed_item, printed_item-Plain, printed_item-Style, rule_text, style_text}
 use Rattle.css_print.specs.Private.Printed.{holds_bytes}
 
@@ -39,15 +39,15 @@ held-declaration : (d : Declaration) → holds_bytes (declaration_text d) ≡ tr
 held-declaration d = held-behind (name_text d.name) _ refl
 
 -- a rule is printed where its block is
-held-rule : (list : List BareSelector) (text : List ℕ) → holds_bytes (rule_text list text) ≡ holds_bytes text
+held-rule : (list : List Selector) (text : List ℕ) → holds_bytes (rule_text list text) ≡ holds_bytes text
 held-rule list [] = refl
 held-rule list (c ∷ cs) = held-behind (list_text list) _ refl
 
-pub rule-some : (list : List BareSelector) (text : List ℕ) → holds_bytes text ≡ true → rule_text list text ≡ braced_text list text
+pub rule-some : (list : List Selector) (text : List ℕ) → holds_bytes text ≡ true → rule_text list text ≡ braced_text list text
 rule-some list [] e = absurd (cc e)
 rule-some list (c ∷ cs) e = refl
 
-pub rule-none : (list : List BareSelector) (text : List ℕ) → holds_bytes text ≡ false → rule_text list text ≡ []
+pub rule-none : (list : List Selector) (text : List ℕ) → holds_bytes text ≡ false → rule_text list text ≡ []
 rule-none list [] e = refl
 rule-none list (c ∷ cs) e = absurd (cc e)
 
@@ -84,11 +84,11 @@ held-block (item ∷ []) = held-alone item ∙ sym (held-append (text_among item
 held-block (first ∷ second ∷ items) = ap holds_bytes (flat_map-map (λ (t : ItemText). t.among) printed_item (first ∷ second ∷ items))
 
 -- the text of a style rule
-pub text-style : (s : Style) → text_among (the_style s) ≡ rule_text (bare_list s.selectors) (block_text (map printed_item s.items))
+pub text-style : (s : Style) → text_among (the_style s) ≡ rule_text s.selectors (block_text (map printed_item s.items))
 text-style s = ap (λ (t : ItemText). t.among) (printed_item-Style s)
 
 pub held-style : (s : Style) → holds_bytes (text_among (the_style s)) ≡ holds_bytes (flat_map text_among s.items)
-held-style s = ap holds_bytes (text-style s) ∙ held-rule (bare_list s.selectors) _ ∙ held-block s.items
+held-style s = ap holds_bytes (text-style s) ∙ held-rule s.selectors _ ∙ held-block s.items
 
 -- more items than one stand one after another
 pub text-block : (items : List Item) → 1 < length items → block_text (map printed_item items) ≡ flat_map text_among items

@@ -1,7 +1,7 @@
 use crate::writer::print;
-use css_rules::selector::{Compound, Selector, TypeName};
-use css_rules::{Declaration, Item, Sheet, Style};
-use css_tokens::{List, OutOfMemory, Text};
+use css_rules::{Declaration, Item, RuleFault, Sheet, Style, read_sheet};
+use css_tokens::{List, OutOfMemory, Text, components, places_rise_in_a_text, tokens};
+use selector_tree::{Compound, Selector, TypeName};
 use std::alloc::Global;
 use std::test::Fail;
 
@@ -31,6 +31,7 @@ fn rule(
         first: Compound {
             kind: TypeName::Name(Text::lent(name)),
             parts: List::new(alloc),
+            tail: None,
         },
         rest: List::new(alloc),
         at: 0,
@@ -77,5 +78,59 @@ fn writes_many_rules(rt: HostRuntime) -> Result<(), Fail> {
     };
     let text = print(alloc, &sheet)?;
     assert_eq!(rt; text.as_slice(), written.as_slice());
+    Ok(())
+}
+
+// What a text is printed as after it is read.
+fn rewritten(alloc: Global, text: &str) -> Result<List<u8>, RuleFault> {
+    let bytes = text.as_bytes();
+    if bytes.len() > 1_000_000 {
+        return Err(RuleFault::Memory);
+    }
+    let end = bytes.len() as u32;
+    let Ok(list) = tokens(alloc, bytes) else {
+        return Err(RuleFault::Memory);
+    };
+    places_rise_in_a_text();
+    match components(alloc, list.as_slice(), end) {
+        Ok(parts) => {
+            let sheet = read_sheet(alloc, parts.as_slice(), end)?;
+            Ok(print(alloc, &sheet)?)
+        }
+        Err(_) => Err(RuleFault::Memory),
+    }
+}
+
+#[test]
+fn writes_what_was_read(rt: HostRuntime) -> Result<(), Fail> {
+    let cases = [
+        (
+            "a:AFTER,[x=y]{color:red}",
+            "a::after,[x=\"y\"]{color:red}\n",
+        ),
+        (
+            "li:nth-child(2N + 1){color:red}",
+            "li:nth-child(2n+1){color:red}\n",
+        ),
+        (
+            "a:not( .b , .c )>[ HREF ^= 'x\\22' ]/**/:LANG( en ){color:red}",
+            "a:not(.b,.c)>[HREF^=\"x\\\"\"]:lang(en){color:red}\n",
+        ),
+        (
+            "::-webkit-scrollbar-thumb:HOVER,:where(){color:red}",
+            "::-webkit-scrollbar-thumb:hover,:where(){color:red}\n",
+        ),
+        (
+            ".a{--x: 1 /* c */ 2;;width:100px\\9;--b:}",
+            ".a{--x:1 2;width:100px\\9;--b: }\n",
+        ),
+        (".a{--x:\\61/* c */ b}", ".a{--x:\\61/**/ b}\n"),
+        ("\u{feff}\u{feff}p{color:red}", "\\feff p{color:red}\n"),
+        ("a:hover{}", ""),
+    ];
+    for (text, written) in cases {
+        let out = rewritten(rt.alloc(), text)?;
+        assert_eq!(rt; out.as_slice(), written.as_bytes(), "{text}");
+    }
     Ok(())
 }

@@ -1,4 +1,3 @@
-ghost use Rattle.css_rules.specs.BareSelectors.{bare_list};
 ghost use Rattle.css_rules.specs.SheetTexts.{block_text, braced_text, declaration_text, declarations_text, ended_declarations, importance_text, more_declarations, printed_item, printed_value, sheet_text};
 ghost use Rattle.css_rules.specs.declared.sheet.Item.{Style as the_style};
 ghost use Rattle.css_tokens.specs.Appends.{AppendsFront};
@@ -6,9 +5,9 @@ ghost use Rattle.css_tokens.specs.NameText.{name_text};
 ghost use Rattle.css_print.specs.Private.Printed.{holds_bytes};
 ghost use Rattle.std.specs.Prelude.{◌≡◌, ◌++◌, List, flat_map, map, IfOk, OnErr, OnOk};
 
-use css_rules::selector::write_list;
 use css_rules::{Declaration, Item, Sheet, Style};
 use css_tokens::{Component, List, OutOfMemory, Text};
+use selector_tree::write_list;
 use std::alloc::Global;
 
 // Writes a name by the identifier serialization of CSSOM, and an empty one as nothing.
@@ -155,8 +154,8 @@ fn write_style(style: &Style, out: &mut List<u8>) -> Result<(), OutOfMemory>
 // Writes the selector list of a style rule and its block, and a line feed behind it.
 #[cycle(print)]
 fn write_rule(style: &Style, out: &mut List<u8>) -> Result<(), OutOfMemory>
-    ensures ok { OnOk result (out.new ≡ out.old ++ braced_text (bare_list style.now.selectors) (block_text (map printed_item style.now.items))) }
-    ensures err { OnErr result (AppendsFront out.old out.new (braced_text (bare_list style.now.selectors) (block_text (map printed_item style.now.items)))) }
+    ensures ok { OnOk result (out.new ≡ out.old ++ braced_text style.now.selectors (block_text (map printed_item style.now.items))) }
+    ensures err { OnErr result (AppendsFront out.old out.new (braced_text style.now.selectors (block_text (map printed_item style.now.items)))) }
 {
     write_list(style.selectors.as_slice(), out)?;
     out.extend_from_slice(b"{")?;

@@ -13,7 +13,7 @@ use Rattle.css_tokens.specs.NameText.{char_text, first_text, needs_code, stands_
 use Rattle.css_tokens.specs.Names.{is_name}
 use Rattle.css_tokens.specs.Tokens.{is_control}
 use Rattle.css_tokens.specs.Trees.{is_text}
-use Rattle.css_rules.specs.ReadableSelectors.{is_clean}
+use Rattle.selector_tree.specs.ReadableSelectors.{is_clean}
 
 -- Texts one after another.
 
@@ -71,10 +71,10 @@ encode-clean c h s = clean-from (encode c) (c ∷ [], (ap (λ b. b && true) s, a
 
 -- Below 128, by a table: all bytes are ASCII and none is a control character.
 
-abbrev is_plain_byte : ℕ → Bool
+abbrev pub is_plain_byte : ℕ → Bool
 is_plain_byte b = nat_lt b 128 && not (is_control b)
 
-abbrev all_plain : List ℕ → Bool
+abbrev pub all_plain : List ℕ → Bool
 all_plain t = list_all is_plain_byte t
 
 abbrev always : ℕ → Bool

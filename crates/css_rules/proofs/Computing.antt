@@ -7,13 +7,23 @@ use Rattle.css_tokens.specs.declared.component.Component.TheVariants.{outs-Singl
 use Rattle.css_tokens.specs.Piece.{Piece}
 use Rattle.css_tokens.specs.Trees.{closing, pieces_all, pieces_of, pieces_of-Single, pieces_of-Block}
 use Rattle.css_tokens.specs.ValueAgain.{head_kind-Single, parted_within-Single, shortened-Single, takes_last-Single}
+use Rattle.std.specs.Prelude.{Option}
+use Rattle.selector_tree.specs.declared.selector.Combinator.{Combinator}
+use Rattle.selector_tree.specs.declared.selector.TypeName.{TypeName}
+use Rattle.selector_tree.specs.declared.selector.Tail as tail
+use Rattle.selector_tree.specs.declared.selector.Compound as compound
+use Rattle.selector_tree.specs.declared.selector.Link as link
+use Rattle.selector_tree.specs.declared.selector.Part as part
+use Rattle.selector_tree.specs.declared.selector.Link.TheVariants.{outs-Linked}
+use Rattle.selector_tree.specs.SelectorFold.{Steps, made_part, made_link, folded_compound, folded_selector, folded-Class, folded-Id, folded-Attribute, folded-Pseudo, folded-Not, folded-Is, folded-Where, folded-Parent, folded-Local, folded-Global, folded-Foreign, folded-Compound, folded-Selector}
+use Rattle.selector_tree.specs.Signs.{mark_of, mark_of-Single, mark_of-Block, block_mark}
 use Rattle.css_rules.specs.Erased.{erased-Single}
 use Rattle.css_rules.specs.Contexts.{Context, under_list}
-use Rattle.css_rules.specs.declared.selector.Selector.{Selector}
+use Rattle.selector_tree.specs.declared.selector.Selector.{Selector}
 use Rattle.css_rules.specs.declared.sheet.Item.{Item}
 use Rattle.css_rules.specs.declared.sheet.Item as item
 use Rattle.css_rules.specs.declared.sheet.Item.TheOpen.{Style}
-use Rattle.css_rules.specs.BareSelectors.{bare_list}
+use Rattle.selector_tree.specs.Erased.{erased as erased_selector}
 use Rattle.css_rules.specs.SheetTexts.{block_text, item_text, printed_item, printed_item-Plain, printed_item-Style, rule_text}
 use Rattle.css_rules.specs.Runs.{runs_within, runs_within-Plain, runs_within-Style}
 
@@ -28,12 +38,26 @@ block-pieces opening items close = pieces_of-Block (record { opening = opening; 
 
 -- how a style rule prints, and its runs
 pub rule-printed : (selectors : List Selector) (items : List Item) (at : ℕ)
-    → printed_item (item.Style (record { selectors = selectors; items = items; at = at })) ≡ item_text (Style (rule_text (bare_list selectors) (block_text (map printed_item items))))
+    → printed_item (item.Style (record { selectors = selectors; items = items; at = at })) ≡ item_text (Style (rule_text selectors (block_text (map printed_item items))))
 rule-printed selectors items at = printed_item-Style (record { selectors = selectors; items = items; at = at })
 
 pub rule-runs : (selectors : List Selector) (items : List Item) (at : ℕ) (c : Context)
-    → runs_within (item.Style (record { selectors = selectors; items = items; at = at })) c ≡ flat_map (λ inner. runs_within inner (under_list (bare_list selectors) c)) items
+    → runs_within (item.Style (record { selectors = selectors; items = items; at = at })) c ≡ flat_map (λ inner. runs_within inner (under_list (map erased_selector selectors) c)) items
 rule-runs selectors items at c = runs_within-Style (record { selectors = selectors; items = items; at = at }) c
 
+-- a compound and a selector that are written out
+pub made-compound : {M K S : Type 0} (steps : Steps M K S) (kind : TypeName) (parts : List part.Part) (tail : Option tail.Tail)
+    → folded_compound steps (record { kind = kind; parts = parts; tail = tail }) ≡ steps.compound kind (map (made_part steps) parts) tail
+made-compound steps kind parts tail = folded-Compound steps (record { kind = kind; parts = parts; tail = tail })
+
+pub made-selector : {M K S : Type 0} (steps : Steps M K S) (lead : Option Combinator) (first : compound.Compound) (rest : List link.Link) (at : ℕ)
+    → folded_selector steps (record { lead = lead; first = first; rest = rest; at = at }) ≡ steps.selector lead (folded_compound steps first) (map (made_link steps) rest) at
+made-selector steps lead first rest at = folded-Selector steps (record { lead = lead; first = first; rest = rest; at = at })
+
+-- what a block that is written out is to the grammar of selectors
+pub block-mark : (opening : Piece) (items : List Component) (close : ℕ)
+    → mark_of (component.Block (record { opening = opening; items = items; close = close })) ≡ block_mark opening (map mark_of items)
+block-mark opening items close = mark_of-Block (record { opening = opening; items = items; close = close })
+
 -- the equations by which the worked examples compute
-pub ruleset computing = (outs-Single, block-out, pieces_of-Single, block-pieces, printed_item-Plain, rule-printed, runs_within-Plain, rule-runs, shortened-Single, parted_within-Single, takes_last-Single, erased-Single, head_kind-Single)
+pub ruleset computing = (outs-Single, block-out, pieces_of-Single, block-pieces, printed_item-Plain, rule-printed, runs_within-Plain, rule-runs, shortened-Single, parted_within-Single, takes_last-Single, erased-Single, head_kind-Single, outs-Linked, folded-Class, folded-Id, folded-Attribute, folded-Pseudo, folded-Not, folded-Is, folded-Where, folded-Parent, folded-Local, folded-Global, folded-Foreign, made-compound, made-selector, mark_of-Single, block-mark)

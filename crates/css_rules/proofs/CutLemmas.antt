@@ -12,7 +12,7 @@ use Rattle.css_tokens.specs.declared.component.Component.{Component}
 use Rattle.css_rules.specs.Components.{is_gap}
 use Rattle.css_rules.specs.Cuts.{Cut, cuts, cuts_behind, with_front, trimmed_start, trimmed_end}
 use Rattle.css_rules.specs.Private.Marks.{EndsAt, EndsCut, IsFirstMark}
-use Rattle.css_rules.proofs.SelectorSpelling.{and-left, and-right, and-both}
+use Rattle.css_rules.proofs.BoolLemmas.{and-left, and-right, and-both}
 
 pub not-true : (b : Bool) → not b ≡ true → b ≡ false
 not-true true e = sym e

@@ -13,7 +13,7 @@ use Rattle.css_rules.specs.Declarations.{after_colon, begins_custom}
 use Rattle.css_rules.specs.Private.Marks.{EndsAt, is_mark}
 use Rattle.css_rules.specs.Sheets.{begins_at_rule, ends_rule, ends_item}
 use Rattle.css_rules.proofs.CutLemmas.{not-true, trimmed_start-gap, trimmed_start-other}
-use Rattle.css_rules.proofs.SelectorSpelling.{and-left, and-right}
+use Rattle.css_rules.proofs.BoolLemmas.{and-left, and-right}
 
 -- Semicolons and blocks.
 

@@ -1,6 +1,6 @@
 -- The faults of a selector list stand in order.
-use Rattle.std.proofs.Common.{◌≡◌, ℕ, ◌≤◌, List, [], ◌∷◌, ◌++◌, Bool, true, false, sym, ◌∙◌, ap, subst, Option, Some, None, inl, inr, arith, nat_lt, IsTrue}
-use Rattle.std.specs.Prelude.{is_some, unwrap_or, if◌then◌else◌, not}
+use Rattle.std.proofs.Common.{◌≡◌, ℕ, ◌≤◌, List, [], ◌∷◌, ◌++◌, map, Bool, true, false, refl, sym, ◌∙◌, ap, subst, Option, Some, None, inl, inr, arith, nat_lt, IsTrue}
+use Rattle.std.specs.Prelude.{unwrap_or, if◌then◌else◌, not, Result, Ok, Err}
 use Rattle.std.specs.List.{AllByRecursion, find, filter_map, cons_option}
 use Rattle.std.specs.Option.{option_map}
 use Rattle.std.proofs.lemmas.Bool.{leb-true}
@@ -10,10 +10,13 @@ use Rattle.css_tokens.specs.declared.component.Component.TheVariants.{outs-Singl
 use Rattle.css_tokens.specs.Piece.{Piece}
 use Rattle.css_tokens.specs.Pairing.{places_rise}
 use Rattle.css_tokens.specs.Trees.{pieces_of, pieces_all, closing, pieces_of-Single, pieces_of-Block}
-use Rattle.css_rules.specs.Components.{Layer, head, layer_head, place_of, is_comma, is_gap}
-use Rattle.css_rules.specs.SelectorFaults.{first_of}
-use Rattle.css_rules.specs.Selectors.{Member, empty_before, with_component, cut_at_commas, selector_of, first_place, fault_of, list_faults}
-use Rattle.css_rules.proofs.SelectorSpelling.{and-left, and-right}
+use Rattle.selector_tree.specs.declared.selector.Selector.{Selector}
+use Rattle.selector_tree.specs.Grammar.{Mark, Member, is_comma_sign, is_gap_sign, selector_of, empty_before, with_mark, cut_at_commas, fault_place, or_fault, member_reading, first_and, members_reading}
+use Rattle.selector_tree.specs.Signs.{mark_of, list_reading}
+use Rattle.css_rules.specs.Components.{Layer, head, layer_head, place_of}
+use Rattle.css_rules.specs.SelectorFaults.{fault_in, list_faults, members_of}
+use Rattle.css_rules.proofs.BoolLemmas.{and-left, and-right}
+use Rattle.css_rules.proofs.MarkPlaces.{mark-place}
 use Rattle.css_rules.proofs.ValueFacts.{shape_of}
 
 -- numbers that rise from the first bound on
@@ -79,57 +82,89 @@ module _ (end : ℕ) where
       let first = part-first low c (pieces_all cs) h in
       (first.0, parts-rise (place_of c) cs first.1)
 
+  -- The marks.
+
+  abbrev MarksRise : ℕ → List Mark → Type 0
+  MarksRise low [] = low ≤ end
+  MarksRise low (m ∷ ms) = (low ≤ m.at) × MarksRise m.at ms
+
+  marks-rise : (low : ℕ) (cs : List Component) → PartsRise low cs → MarksRise low (map mark_of cs)
+  marks-rise low [] h = h
+  marks-rise low (c ∷ cs) h =
+      let Rises : ℕ → Type 0 = λ at. (low ≤ at) × MarksRise at (map mark_of cs) in
+      subst Rises (sym (mark-place c)) (h.0, marks-rise (place_of c) cs h.1)
+
   -- The members and their faults.
 
   abbrev stop_of : Member → ℕ
   stop_of m = unwrap_or m.stop end
 
   abbrev faults_of : List Member → List ℕ
-  faults_of ms = filter_map (fault_of end) ms
+  faults_of ms = filter_map (λ m. fault_in (member_reading false end m)) ms
 
   -- where a member is refused if it is, and that the faults behind it follow
   record MembersRise (low : ℕ) (ms : Member × List Member) : Type 0 where
-    from : low ≤ unwrap_or (first_place ms.0.components) (stop_of ms.0)
-    upto : unwrap_or (first_place ms.0.components) (stop_of ms.0) ≤ stop_of ms.0
+    from : low ≤ fault_place end ms.0
+    upto : fault_place end ms.0 ≤ stop_of ms.0
     rest : Rising (stop_of ms.0) (faults_of ms.1)
 
-  fault-more : (low at stop : ℕ) (read : Bool) (places : List ℕ) → low ≤ at → at ≤ stop → Rising stop places → Rising low (cons_option (if read then None else Some at) places)
-  fault-more low at stop true places h k r = rising-lower stop low places (omega arith) r
-  fault-more low at stop false places h k r = (h, rising-lower stop at places k r)
+  fault-more : (low at stop : ℕ) (o : Option Selector) (places : List ℕ) → low ≤ at → at ≤ stop → Rising stop places → Rising low (cons_option (fault_in (or_fault o at)) places)
+  fault-more low at stop (Some s) places h k r = rising-lower stop low places (omega arith) r
+  fault-more low at stop None places h k r = (h, rising-lower stop at places k r)
 
   faults-rise : (low : ℕ) (ms : Member × List Member) → MembersRise low ms → Rising low (faults_of (ms.0 ∷ ms.1))
-  faults-rise low ms h =
-      fault-more low (unwrap_or (first_place ms.0.components) (stop_of ms.0)) (stop_of ms.0) (is_some (selector_of ms.0.components)) (faults_of ms.1) h.from h.upto h.rest
+  faults-rise low ms h = fault-more low (fault_place end ms.0) (stop_of ms.0) (selector_of false ms.0.marks) (faults_of ms.1) h.from h.upto h.rest
 
-  found-rises : (low : ℕ) (c : Component) (o : Option Component) (stop : ℕ) (solid : Bool) → low ≤ place_of c → place_of c ≤ unwrap_or (option_map place_of o) stop → unwrap_or (option_map place_of o) stop ≤ stop
-      → (low ≤ unwrap_or (option_map place_of (if solid then Some c else o)) stop) × (unwrap_or (option_map place_of (if solid then Some c else o)) stop ≤ stop)
-  found-rises low c o stop true h k l = (h, omega arith)
-  found-rises low c o stop false h k l = (omega arith, l)
+  abbrev place_in : Option Mark → Option ℕ
+  place_in o = option_map (λ (m : Mark). m.at) o
 
-  one-more : (low : ℕ) (c : Component) (ms : Member × List Member) (comma : Bool) → low ≤ place_of c → MembersRise (place_of c) ms
-      → MembersRise low (if comma then (empty_before (Some (place_of c)), ms.0 ∷ ms.1) else (with_component c ms.0, ms.1))
-  one-more low c ms true h k = record { from = h; upto = omega arith; rest = faults-rise (place_of c) ms k }
-  one-more low c ms false h k =
-      let place = found-rises low c (find (λ x. not (is_gap x)) ms.0.components) (stop_of ms.0) (not (is_gap c)) h k.from k.upto in
+  found-rises : (low : ℕ) (m : Mark) (o : Option Mark) (stop : ℕ) (solid : Bool) → low ≤ m.at → m.at ≤ unwrap_or (place_in o) stop → unwrap_or (place_in o) stop ≤ stop
+      → (low ≤ unwrap_or (place_in (if solid then Some m else o)) stop) × (unwrap_or (place_in (if solid then Some m else o)) stop ≤ stop)
+  found-rises low m o stop true h k l = (h, omega arith)
+  found-rises low m o stop false h k l = (omega arith, l)
+
+  one-more : (low : ℕ) (m : Mark) (ms : Member × List Member) (comma : Bool) → low ≤ m.at → MembersRise m.at ms
+      → MembersRise low (if comma then (empty_before (Some m.at), ms.0 ∷ ms.1) else (with_mark m ms.0, ms.1))
+  one-more low m ms true h k = record { from = h; upto = omega arith; rest = faults-rise m.at ms k }
+  one-more low m ms false h k =
+      let place = found-rises low m (find (λ x. not (is_gap_sign x.sign)) ms.0.marks) (stop_of ms.0) (not (is_gap_sign m.sign)) h k.from k.upto in
       record { from = place.0; upto = place.1; rest = k.rest }
 
-  members-rise : (low : ℕ) (cs : List Component) → PartsRise low cs → MembersRise low (cut_at_commas cs)
+  members-rise : (low : ℕ) (ms : List Mark) → MarksRise low ms → MembersRise low (cut_at_commas ms)
   members-rise low [] h = record { from = h; upto = omega arith; rest = tt }
-  members-rise low (c ∷ cs) h = one-more low c (cut_at_commas cs) (is_comma c) h.0 (members-rise (place_of c) cs h.1)
+  members-rise low (m ∷ ms) h = one-more low m (cut_at_commas ms) (is_comma_sign m.sign) h.0 (members-rise m.at ms h.1)
 
-  first-least : (low at : ℕ) (places : List ℕ) → Rising low places → first_of places ≡ Some at → AllByRecursion (λ other. at ≤ other) places
+  -- The fault that is named is the first of them.
+
+  abbrev first-of : List ℕ → Option ℕ
+  first-of [] = None
+  first-of (at ∷ places) = Some at
+
+  one-named : (o : Option Selector) (place at : ℕ) (list : Result (List Selector) ℕ) (places : List ℕ) → ((place : ℕ) → list ≡ Err place → first-of places ≡ Some place)
+      → first_and (or_fault o place) list ≡ Err at → first-of (cons_option (fault_in (or_fault o place)) places) ≡ Some at
+  one-named None place at list places named e = let same : place ≡ at = cc e in ap (λ n. Some n) same
+  one-named (Some s) place at (Ok ss) places named e = absurd (cc e)
+  one-named (Some s) place at (Err p) places named e = let same : p ≡ at = cc e in named p refl ∙ ap (λ n. Some n) same
+
+  fault-named : (ms : List Member) (at : ℕ) → members_reading false end ms ≡ Err at → first-of (faults_of ms) ≡ Some at
+  fault-named [] at e = absurd (cc e)
+  fault-named (m ∷ ms) at e = one-named (selector_of false m.marks) (fault_place end m) at (members_reading false end ms) (faults_of ms) (fault-named ms) e
+
+  first-least : (low at : ℕ) (places : List ℕ) → Rising low places → first-of places ≡ Some at → AllByRecursion (λ other. at ≤ other) places
   first-least low at [] h e = tt
   first-least low at (place ∷ places) h e =
       let same : place ≡ at = cc e in
       subst (λ n. AllByRecursion (λ other. n ≤ other) (place ∷ places)) same (omega arith, rising-each place places h.1)
 
 abbrev Least : ℕ → List Component → Type 0
-Least end cs = (at : ℕ) → first_of (list_faults cs end) ≡ Some at → AllByRecursion (λ other. at ≤ other) (list_faults cs end)
+Least end cs = (at : ℕ) → list_reading false cs end ≡ Err at → AllByRecursion (λ other. at ≤ other) (list_faults cs end)
 
 parts-least : (end : ℕ) (cs : List Component) → PartsRise end 0 cs → Least end cs
-parts-least end cs h at e = first-least end 0 at (list_faults cs end) (faults-rise end 0 (cut_at_commas cs) (members-rise end 0 cs h)) e
+parts-least end cs h at e =
+    let ms = map mark_of cs in
+    first-least end 0 at (list_faults cs end) (faults-rise end 0 (cut_at_commas ms) (members-rise end 0 ms (marks-rise end 0 cs h))) (fault-named end (members_of ms) at e)
 
-pub first_fault-least : (cs : List Component) (end at : ℕ) → IsTrue (places_rise (pieces_all cs) end) → first_of (list_faults cs end) ≡ Some at → AllByRecursion (λ other. at ≤ other) (list_faults cs end)
+pub first_fault-least : (cs : List Component) (end at : ℕ) → IsTrue (places_rise (pieces_all cs) end) → list_reading false cs end ≡ Err at → AllByRecursion (λ other. at ≤ other) (list_faults cs end)
 first_fault-least cs end at h e = parts-least end cs (parts-rise end 0 cs (tokens-rise end (pieces_all cs) h)) at e
 
 -- A prelude among components.
@@ -147,7 +182,7 @@ parts-before end low [] block behind h = h.0
 parts-before end low (c ∷ cs) block behind h = (h.0, parts-before end (place_of c) cs block behind h.1)
 
 pub first_fault-prelude : (front cs behind : List Component) (block : Component) (end at : ℕ) → IsTrue (places_rise (pieces_all (front ++ (cs ++ block ∷ behind))) end)
-    → first_of (list_faults cs (head block).at) ≡ Some at → AllByRecursion (λ other. at ≤ other) (list_faults cs (head block).at)
+    → list_reading false cs (head block).at ≡ Err at → AllByRecursion (λ other. at ≤ other) (list_faults cs (head block).at)
 first_fault-prelude front cs behind block end at h e =
     let all = front ++ (cs ++ block ∷ behind) in
     let rise = parts-behind end 0 front (cs ++ block ∷ behind) (parts-rise end 0 all (tokens-rise end (pieces_all all) h)) in

@@ -8,14 +8,16 @@ use Rattle.css_rules.specs.Contexts.{outside, under_list}
 use Rattle.css_rules.specs.declared.sheet.Declaration.{Declaration}
 use Rattle.css_rules.specs.declared.sheet.Item.{Item, Style as the_style}
 use Rattle.css_rules.specs.declared.sheet.Style.{Style}
-use Rattle.css_rules.specs.BareSelectors.{BareSelector, bare_list}
+use Rattle.selector_tree.specs.declared.selector.Selector.{Selector}
+use Rattle.selector_tree.specs.Erased.{erased}
 use Rattle.css_rules.specs.Cuts.{Cut, cuts}
 use Rattle.css_rules.specs.Runs.{Run, runs_of, runs_within, runs_within-Plain, runs_within-Style}
 use Rattle.css_rules.specs.declared.sheet.Sheet.{Sheet}
 use Rattle.css_rules.specs.Sheets.{ends_rule, rule_of, run_of, sheet_of}
 use Rattle.css_rules.proofs.ReadAllLemmas.{read_all-holds}
 use Rattle.css_rules.proofs.RuleShapes.{rule-shape, sheet-items}
-use Rattle.css_rules.specs.SheetTexts.{ItemText, block_text, braced_text, importance_text, more_declarations, printed_item, printed_item-Plain, printed_item-Style, printed_value, rule_text, run_text, runs_text, sheet_text}
+use Rattle.css_rules.proofs.SpellingErased.{text-erased}
+use Rattle.css_rules.specs.SheetTexts.{ItemText, block_text, braced_text, declarations_text, importance_text, more_declarations, printed_item, printed_item-Plain, printed_item-Style, printed_value, rule_text, run_text, runs_text, sheet_text}
 
 abbrev text_among : Item → List ℕ
 text_among item = (printed_item item).among
@@ -24,7 +26,7 @@ abbrev runs_in : Item → List Run
 runs_in item = runs_within item outside
 
 -- a block that prints something
-rule-some : (list : List BareSelector) (name value more : List ℕ)
+rule-some : (list : List Selector) (name value more : List ℕ)
     → rule_text list ((name ++ (codes ":" ++ value)) ++ more) ≡ braced_text list ((name ++ (codes ":" ++ value)) ++ more)
 rule-some list [] value more = refl
 rule-some list (c ∷ name) value more = refl
@@ -33,17 +35,18 @@ rule-some list (c ∷ name) value more = refl
 text-style : (s : Style) (ds : List Declaration) → s.items ≡ run_of ds → flat_map text_among (the_style s ∷ []) ≡ runs_text (flat_map runs_in (the_style s ∷ []))
 text-style s [] none =
     ap (λ (t : ItemText). t.among ++ []) (printed_item-Style s)
-    ∙ ap (λ (items : List Item). rule_text (bare_list s.selectors) (block_text (map printed_item items)) ++ []) none
-    ∙ sym (ap (λ (items : List Item). runs_text (flat_map (λ inner. runs_within inner (under_list (bare_list s.selectors) outside)) items ++ [])) none)
+    ∙ ap (λ (items : List Item). rule_text s.selectors (block_text (map printed_item items)) ++ []) none
+    ∙ sym (ap (λ (items : List Item). runs_text (flat_map (λ inner. runs_within inner (under_list (map erased s.selectors) outside)) items ++ [])) none)
     ∙ sym (ap (λ (runs : List Run). runs_text (runs ++ [])) (runs_within-Style s outside))
 text-style s (d ∷ ds) some =
-    let list = bare_list s.selectors in
+    let list = s.selectors in
     ap (λ (t : ItemText). t.among ++ []) (printed_item-Style s)
     ∙ ap (λ (items : List Item). rule_text list (block_text (map printed_item items)) ++ []) some
     ∙ ap (λ (t : ItemText). rule_text list t.alone ++ []) (printed_item-Plain (d ∷ ds))
     ∙ ap (λ t. t ++ []) (rule-some list (name_text d.name) (printed_value d.value ++ importance_text d.important) (more_declarations ds))
-    ∙ sym (ap (λ (runs : List Run). runs_text ((runs ++ []) ++ [])) (runs_within-Plain (d ∷ ds) (under_list list outside)))
-    ∙ sym (ap (λ (items : List Item). runs_text (flat_map (λ inner. runs_within inner (under_list list outside)) items ++ [])) some)
+    ∙ ap (λ front. (front ++ (codes "{" ++ (declarations_text (d ∷ ds) ++ (codes "}" ++ 10 ∷ [])))) ++ []) (sym (text-erased list))
+    ∙ sym (ap (λ (runs : List Run). runs_text ((runs ++ []) ++ [])) (runs_within-Plain (d ∷ ds) (under_list (map erased list) outside)))
+    ∙ sym (ap (λ (items : List Item). runs_text (flat_map (λ inner. runs_within inner (under_list (map erased list) outside)) items ++ [])) some)
     ∙ sym (ap (λ (runs : List Run). runs_text (runs ++ [])) (runs_within-Style s outside))
 
 abbrev IsFlat : List Item → Type 0

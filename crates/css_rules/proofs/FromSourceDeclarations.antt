@@ -6,7 +6,7 @@ use Rattle.css_tokens.specs.declared.component.Component.{Component}
 use Rattle.css_tokens.specs.Piece.{Piece}
 use Rattle.css_tokens.specs.Names.{is_name}
 use Rattle.css_tokens.specs.Trees.{all_formed, words_all}
-use Rattle.css_rules.specs.ReadableSelectors.{is_spelled}
+use Rattle.selector_tree.specs.ReadableSelectors.{is_spelled}
 use Rattle.css_rules.specs.declared.sheet.Declaration.{Declaration}
 use Rattle.css_rules.specs.Components.{head, is_ident, is_colon, is_bang, is_braces, is_semicolon, is_custom, name_of}
 use Rattle.css_rules.specs.Cuts.{Cut, cuts, cuts_at, trimmed, trimmed_start}
@@ -17,7 +17,7 @@ use Rattle.css_rules.proofs.FromSourceNames.{property-named, property-custom, pr
 use Rattle.css_rules.proofs.FromSourceParts.{is_sound, sound-formed, sound-spelled, sound-ident, none-any, all-start, all-trimmed, trimmed-begins, IsPart, parts-cuts}
 use Rattle.css_rules.proofs.ReadAllLemmas.{read_all-holds}
 use Rattle.css_rules.proofs.RuleShapes.{item-shape}
-use Rattle.css_rules.proofs.SelectorSpelling.{and-left, and-right}
+use Rattle.css_rules.proofs.BoolLemmas.{and-left, and-right}
 
 -- Values.
 

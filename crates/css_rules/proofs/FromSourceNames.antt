@@ -8,7 +8,7 @@ use Rattle.css_tokens.specs.Names.{is_name}
 use Rattle.css_rules.proofs.LowerNames.{lower-name}
 use Rattle.css_rules.specs.Components.{is_custom}
 use Rattle.css_rules.specs.Declarations.{property_name}
-use Rattle.css_rules.proofs.SelectorSpelling.{and-left, and-right, and-both}
+use Rattle.css_rules.proofs.BoolLemmas.{and-left, and-right, and-both}
 
 dash-lower : (b : ℕ) → nat_eq 45 (to_ascii_lowercase b) ≡ nat_eq 45 b
 dash-lower b = grind (arith, nat_tests)

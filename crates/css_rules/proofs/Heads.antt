@@ -1,15 +1,24 @@
 -- What the tests say of a token alone and of a block.
-use Rattle.std.proofs.Common.{◌≡◌, List, [], ◌∷◌, map, false, ◌&&◌, ◌||◌, not, refl, ◌∙◌, ap, codes}
-use Rattle.std.specs.List.{list_any}
+use Rattle.std.proofs.Common.{◌≡◌, ℕ, List, [], ◌∷◌, false, ◌&&◌, not, ◌∙◌, ap, codes}
 use Rattle.css_tokens.specs.declared.component.Component.{Component, out-Component}
 use Rattle.css_tokens.specs.declared.component.Component as component
 use Rattle.css_tokens.specs.declared.component.Block as block
 use Rattle.css_tokens.specs.declared.component.Component.TheVariants.{outs-Single, outs-Block}
+use Rattle.css_tokens.specs.declared.component.Component.TheOpen.{Component-F, Single}
+use Rattle.css_tokens.specs.declared.component.Component.TheFolds.{fold-Component, fold_out-Component}
+use Rattle.css_tokens.specs.declared.kind.Kind.{Kind}
 use Rattle.css_tokens.specs.Piece.{Piece, Word}
-use Rattle.css_tokens.specs.Trees.{is_text}
+use Rattle.css_tokens.specs.Trees.{is_text, pieces_of, component_pieces, block_pieces}
 use Rattle.css_tokens.specs.Values.{is_gap as is_gap_kind}
 use Rattle.css_rules.specs.Components.{layer_head, layer_is_single, layer_items, head, inside, is_gap, is_ident, is_at_keyword, is_colon, is_semicolon, is_bang, is_braces, is_ident_kind, is_at_kind, is_colon_kind, is_semicolon_kind, is_delim_kind, is_comma, is_comma_kind}
-use Rattle.css_rules.specs.SelectorWords.{single_of}
+
+-- the word of this kind and this text
+abbrev pub word : Kind → List ℕ → Word
+word kind text = record { kind = kind; text = text }
+
+-- a word as a component, at the place 0
+abbrev pub single_of : Word → Component
+single_of w = component.Single (record { kind = w.kind; text = w.text; at = 0 })
 
 -- the piece of a word at the place 0
 abbrev pub piece_of : Word → Piece
@@ -66,7 +75,9 @@ braces-Single p = ap (λ v. not (layer_is_single v) && is_text (layer_head v).te
 pub braces-Block : (b : block.Block) → is_braces (component.Block b) ≡ is_text b.opening.text (codes "{")
 braces-Block b = ap (λ v. not (layer_is_single v) && is_text (layer_head v).text (codes "{")) (outs-Block b)
 
--- no token alone is a `{}` block
-pub braces-singles : (ws : List Word) → list_any is_braces (map single_of ws) ≡ false
-braces-singles [] = refl
-braces-singles (w ∷ ws) = ap (λ b. b || list_any is_braces (map single_of ws)) (braces-Single (piece_of w)) ∙ braces-singles ws
+abbrev layer_pieces : Component-F Component block.Block → List Piece
+layer_pieces v = component_pieces (component.map-Component Component block.Block (List Piece) (List Piece) (fold-Component (List Piece) (List Piece) component_pieces block_pieces) (block.fold-Block (List Piece) (List Piece) component_pieces block_pieces) v)
+
+-- the tokens of a token alone
+pub single-piece : (c : Component) (p : Piece) → out-Component c ≡ Single p → pieces_of c ≡ p ∷ []
+single-piece c p e = fold_out-Component (List Piece) (List Piece) component_pieces block_pieces c ∙ ap layer_pieces e

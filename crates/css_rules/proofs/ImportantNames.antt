@@ -2,10 +2,12 @@
 use Rattle.std.proofs.Common.{◌≡◌, ◌<◌, ◌≤◌, ℕ, arith, List, [], ◌∷◌, ◌++◌, Bool, true, false, ◌||◌, refl, subst, sym, ◌∙◌, inl, inr, codes, nat_eq, ltb, ltb-true, ltb-false}
 use Rattle.std.proofs.lemmas.Bool.{agree_below_at, cases_Bool, eqb-true, false≢true}
 use Rattle.std.proofs.lemmas.Bool.Decides.{nat_tests}
+use Rattle.std.specs.Str.{chars, is_utf8}
+use lib.Utf8.{encode}
 use Rattle.css_tokens.specs.declared.kind.Kind.{Kind}
 use Rattle.css_tokens.specs.declared.kind.Kind.TheVariants as kinds
 use Rattle.css_tokens.specs.Again.{is_stop}
-use Rattle.css_tokens.specs.Names.{name_of_word}
+use Rattle.css_tokens.specs.Names.{is_name, name_of_word}
 use Rattle.css_tokens.specs.Tokens.{classes_of}
 use Rattle.css_rules.specs.Components.{is_ident_kind, is_keyword}
 
@@ -42,3 +44,8 @@ pub important-stop : (k : Kind) (u rest : List ℕ) → is_ident_kind k ≡ true
 important-stop kinds.Ident [] rest i h = absurd (false≢true h)
 important-stop kinds.Ident (b ∷ u) rest i h = bang-before b (u ++ rest) (no-dash b u h)
 important-stop k u rest i h = absurd (false≢true i)
+
+-- it is a name
+pub important-name : is_name (codes "important") ≡ true
+unfolding is_utf8 chars encode
+important-name = refl

@@ -1,47 +1,36 @@
--- A selector list is read exactly where it has no fault, as the selectors of its members.
-use Rattle.std.proofs.Common.{◌≡◌, ℕ, List, [], ◌∷◌, Option, Some, None, refl, sym, ◌∙◌, ap, option_map, is_some, unwrap_or}
-use Rattle.std.specs.Prelude.{if◌then◌else◌}
-use Rattle.std.specs.List.{cons_option, filter_map}
+-- A selector list is read or not wherever it ends.
+use Rattle.std.proofs.Common.{◌≡◌, ℕ, List, [], ◌∷◌, map, Bool, false, Option, Some, None, refl, sym, ◌∙◌, ap, option_map}
+use Rattle.std.specs.Prelude.{Result, Ok, Err}
 use Rattle.css_tokens.specs.declared.component.Component.{Component}
-use Rattle.css_rules.specs.declared.selector.Selector.{Selector}
-use Rattle.css_rules.specs.Private.SelectorSteps.{selectors_in}
-use Rattle.css_rules.specs.ReadAll.{joined, read_all}
-use Rattle.css_rules.specs.Selectors.{Member, members_of, member_of, selector_of, first_place, fault_of, list_of, list_faults}
-use Rattle.css_rules.proofs.ReadAllLemmas.{Told, told-read}
+use Rattle.selector_tree.specs.declared.selector.Selector.{Selector}
+use Rattle.selector_tree.specs.Grammar.{Mark, Member, or_fault, first_and, fault_place, members_reading, marks_reading, cut_at_commas, selector_of}
+use Rattle.selector_tree.specs.Signs.{list_in, list_reading, mark_of, read}
 
-abbrev fault_by : Option Selector → ℕ → Option ℕ
-fault_by o place = if is_some o then None else Some place
+pub first-alike : (o : Option Selector) (p q : ℕ) (l m : Result (List Selector) ℕ) → read l ≡ read m → read (first_and (or_fault o p) l) ≡ read (first_and (or_fault o q) m)
+first-alike None p q l m e = refl
+first-alike (Some s) p q (Err a) (Err b) e = refl
+first-alike (Some s) p q (Err a) (Ok ts) e = absurd (cc e)
+first-alike (Some s) p q (Ok ss) (Err b) e = absurd (cc e)
+first-alike (Some s) p q (Ok ss) (Ok ts) e = ap (option_map (λ (xs : List Selector). s ∷ xs)) e
 
-abbrev in_list : Option Selector → Option (List Selector)
-in_list o = option_map (λ selector. selector ∷ []) o
+members-alike : (nested : Bool) (a b : ℕ) (ms : List Member) → read (members_reading nested a ms) ≡ read (members_reading nested b ms)
+members-alike nested a b [] = refl
+members-alike nested a b (m ∷ ms) =
+    first-alike (selector_of nested m.marks) (fault_place a m) (fault_place b m) (members_reading nested a ms) (members_reading nested b ms) (members-alike nested a b ms)
 
-told-one : (o : Option Selector) (place : ℕ) (p : Option (List Selector)) (rest : List ℕ) → Told p rest → Told (joined (in_list o) p) (cons_option (fault_by o place) rest)
-told-one None place p rest told = λ e. cc e
-told-one (Some s) place None rest told = told
-told-one (Some s) place (Some ss) rest told = told
+pub marks-alike : (nested : Bool) (a b : ℕ) (ms : List Mark) → read (marks_reading nested ms a) ≡ read (marks_reading nested ms b)
+marks-alike nested a b ms = members-alike nested a b ((cut_at_commas ms).0 ∷ (cut_at_commas ms).1)
 
-told-members : (end : ℕ) (ms : List Member) → Told (read_all member_of ms) (filter_map (fault_of end) ms)
-told-members end [] = refl
-told-members end (m ∷ ms) =
-    told-one (selector_of m.components) (unwrap_or (first_place m.components) (unwrap_or m.stop end)) (read_all member_of ms) (filter_map (fault_of end) ms) (told-members end ms)
+-- the list of a prelude, read up to any place
+pub list-read : (cs : List Component) (end : ℕ) → read (list_reading false cs end) ≡ list_in (map mark_of cs)
+list-read cs end = marks-alike false end 0 (map mark_of cs)
 
-pub told-list : (cs : List Component) (end : ℕ) → Told (list_of cs) (list_faults cs end)
-told-list cs end = told-members end (members_of cs)
+pub list-given : (cs : List Component) (end : ℕ) (list : List Selector) → list_reading false cs end ≡ Ok list → list_in (map mark_of cs) ≡ Some list
+list-given cs end list e = sym (list-read cs end) ∙ ap read e
 
-whole-one : (o : Option Selector) (place : ℕ) (rest : List ℕ) (p : Option (List Selector)) (ss : List Selector) → (rest ≡ [] → p ≡ Some ss) → cons_option (fault_by o place) rest ≡ []
-    → joined (in_list o) p ≡ Some (cons_option o ss)
-whole-one None place rest p ss so e = absurd (cc e)
-whole-one (Some s) place rest p ss so e = ap (option_map (λ more. s ∷ more)) (so e)
-
-whole-members : (end : ℕ) (ms : List Member) → filter_map (fault_of end) ms ≡ [] → read_all member_of ms ≡ Some (filter_map (λ m. selector_of m.components) ms)
-whole-members end [] e = refl
-whole-members end (m ∷ ms) e =
-    whole-one (selector_of m.components) (unwrap_or (first_place m.components) (unwrap_or m.stop end)) (filter_map (fault_of end) ms) (read_all member_of ms)
-    (filter_map (λ (x : Member). selector_of x.components) ms) (whole-members end ms) e
-
--- without a fault it is read as its selectors
-pub list-whole : (cs : List Component) (end : ℕ) → list_faults cs end ≡ [] → list_of cs ≡ Some (selectors_in cs)
-list-whole cs end = whole-members end (members_of cs)
-
-pub list-given : (cs : List Component) (list : List Selector) → list_of cs ≡ Some list → list ≡ selectors_in cs
-list-given cs list e = let whole = sym e ∙ list-whole cs 0 (told-read (list_of cs) list (list_faults cs 0) (told-list cs 0) e) in cc whole
+pub list-found : (cs : List Component) (list : List Selector) → list_in (map mark_of cs) ≡ Some list → list_reading false cs 0 ≡ Ok list
+list-found cs list e = at (list_reading false cs 0) e
+  where
+    at : (r : Result (List Selector) ℕ) → read r ≡ Some list → r ≡ Ok list
+    at (Err place) h = absurd (cc h)
+    at (Ok ss) h = let same : ss ≡ list = cc h in ap (λ (xs : List Selector). Ok xs) same

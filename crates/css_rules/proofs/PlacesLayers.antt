@@ -6,10 +6,8 @@ use Rattle.css_tokens.specs.declared.component.Component.TheVariants.{outs-Singl
 use Rattle.css_tokens.specs.Piece.{Piece}
 use Rattle.css_tokens.specs.Trees.{is_text}
 use Rattle.css_tokens.specs.Values.{is_gap as is_gap_kind}
-use Rattle.css_rules.specs.Components.{Layer, layer_head, layer_is_single, layer_items, head, inside, is_gap, is_ident, is_at_keyword, is_colon, is_semicolon, is_bang, is_braces, is_ident_kind, is_at_kind, is_colon_kind, is_semicolon_kind, is_delim_kind, is_comma, is_comma_kind}
-use Rattle.css_rules.specs.Signs.{sign_of, open_sign}
+use Rattle.css_rules.specs.Components.{Layer, layer_head, layer_is_single, layer_items, head, inside, is_gap, is_ident, is_at_keyword, is_colon, is_semicolon, is_bang, is_braces, is_ident_kind, is_at_kind, is_colon_kind, is_semicolon_kind, is_delim_kind}
 use Rattle.css_rules.proofs.ValueFacts.{shape_of}
-use Rattle.css_rules.proofs.SelectorPlaces.{unplaced, sign-unplaced}
 use Rattle.css_rules.specs.Erased.{placeless, erased, erased_block, erased-Single, erased-Block}
 
 abbrev erased_layer : Layer → Layer
@@ -71,15 +69,3 @@ bang-erased = tested (λ b p. b && (is_delim_kind p.kind && is_text p.text (code
 
 pub braces-erased : (c : Component) → is_braces (erased c) ≡ is_braces c
 braces-erased = tested (λ b p. not b && is_text p.text (codes "{")) (λ b p. refl)
-
--- Signs of selectors.
-
-pub comma-erased : (c : Component) → is_comma (erased c) ≡ is_comma c
-comma-erased = tested (λ b p. b && is_comma_kind p.kind) (λ b p. refl)
-
-sign-layer : (v : Layer) → unplaced (open_sign (erased_layer v)) ≡ unplaced (open_sign v)
-sign-layer (Single p) = sign-unplaced p.kind p.text 0 ∙ sym (sign-unplaced p.kind p.text p.at)
-sign-layer (Block b) = refl
-
-pub sign-erased : (c : Component) → unplaced (sign_of (erased c)) ≡ unplaced (sign_of c)
-sign-erased c = ap (λ v. unplaced (open_sign v)) (out-erased c) ∙ sign-layer (out-Component c)

@@ -109,7 +109,7 @@ formed-block b each = ap is_formed (erased-Block b) ∙ is_formed-Block (erased_
 formed-erased : (c : Component) → StaysFormed c
 formed-erased = by_components StaysFormed (λ p. ap is_formed (erased-Single p) ∙ is_formed-Single (placeless p) ∙ sym (is_formed-Single p)) formed-block
 
-all_formed-erased : (cs : List Component) → all_formed (map erased cs) ≡ all_formed cs
+pub all_formed-erased : (cs : List Component) → all_formed (map erased cs) ≡ all_formed cs
 all_formed-erased cs = formed-each cs (every StaysFormed formed-erased cs)
 
 -- what is ensured of tokens: they make one list of components at most

@@ -1,8 +1,8 @@
 -- What a rule and an item are that have a reading.
-use Rattle.std.proofs.Common.{◌≡◌, ℕ, List, [], ◌∷◌, Bool, true, false, ◌||◌, Option, Some, None, refl, ap, cond, option_map, inl, inr, ◌⊎◌}
+use Rattle.std.proofs.Common.{◌≡◌, ℕ, List, [], ◌∷◌, map, Bool, true, false, Option, Some, None, refl, ap, cond, option_map, inl, inr, ◌⊎◌}
 use Rattle.css_tokens.specs.declared.component.Component.{Component}
-use Rattle.css_rules.specs.declared.refusal.Sought.TheVariants.{ColonOrBracket, Ampersand}
-use Rattle.css_rules.specs.declared.selector.Selector.{Selector}
+use Rattle.selector_tree.specs.Signs.{list_in, mark_of}
+use Rattle.selector_tree.specs.declared.selector.Selector.{Selector}
 use Rattle.css_rules.specs.declared.sheet.Declaration.{Declaration}
 use Rattle.css_rules.specs.declared.sheet.Item.{Item}
 use Rattle.css_rules.specs.declared.sheet.Item as item
@@ -10,10 +10,9 @@ use Rattle.css_rules.specs.declared.sheet.Sheet.{Sheet}
 use Rattle.css_rules.specs.Components.{head, inside}
 use Rattle.css_rules.specs.Cuts.{Cut, trimmed}
 use Rattle.css_rules.specs.Declarations.{declaration_of}
-use Rattle.css_rules.specs.Refusals.{has_sought}
-use Rattle.css_rules.specs.Selectors.{list_of}
+use Rattle.css_rules.specs.Refusals.{has_waiting}
 use Rattle.css_rules.specs.Sheets.{begins_at_rule, ends_in_braces, is_unbuilt, built, plain_item, is_rule, item_of, declarations_of, run_of, prelude_of, style_with, first_place, leftover, style_of, rule_of, rules_of, sheet_of}
-use Rattle.css_rules.proofs.CutLemmas.{or-left, or-right}
+use Rattle.css_rules.proofs.CutLemmas.{or-right}
 
 unless-some : {A : Type 0} (b : Bool) (o : Option A) (x : A) → cond b None o ≡ Some x → (b ≡ false) × (o ≡ Some x)
 unless-some true o x e = absurd (cc e)
@@ -50,18 +49,13 @@ item-shape cut ds e = at (trimmed cut.front) refl (unless-some (is_rule cut) (pl
 -- Preludes.
 
 pub record IsPlainPrelude (prelude : List Component) (list : List Selector) : Type 0 where
-  pub colon : has_sought ColonOrBracket prelude ≡ false
-  pub ampersand : has_sought Ampersand prelude ≡ false
-  pub spelled : list_of prelude ≡ Some list
+  pub built : has_waiting prelude ≡ false
+  pub spelled : list_in (map mark_of prelude) ≡ Some list
 
 pub prelude-shape : (prelude : List Component) (list : List Selector) → prelude_of prelude ≡ Some list → IsPlainPrelude prelude list
 prelude-shape prelude list e =
-    let plain = unless-some (has_sought ColonOrBracket prelude || has_sought Ampersand prelude) (list_of prelude) list e in
-    record {
-      colon = or-left (has_sought ColonOrBracket prelude) (has_sought Ampersand prelude) plain.0;
-      ampersand = or-right (has_sought ColonOrBracket prelude) (has_sought Ampersand prelude) plain.0;
-      spelled = plain.1;
-    }
+    let plain = unless-some (has_waiting prelude) (list_in (map mark_of prelude)) list e in
+    record { built = plain.0; spelled = plain.1 }
 
 -- Rules.
 

@@ -1,11 +1,12 @@
 -- A printed sheet is read as that sheet, rule by rule.
 use Rattle.std.proofs.Common.{◌≡◌, ℕ, List, [], ◌∷◌, ◌++◌, map, flat_map, Bool, true, false, ◌&&◌, ◌||◌, not, Option, Some, None, option_map, refl, sym, ◌∙◌, ap, subst, cond, IsTrue, codes}
-use Rattle.std.specs.List.{list_any, AllByRecursion}
+use Rattle.std.specs.List.{list_all, list_any, AllByRecursion}
 use Rattle.std.proofs.lemmas.List.{append_assoc, append-nil}
 use Rattle.css_tokens.specs.declared.kind.Kind.TheVariants as kinds
 use Rattle.css_tokens.specs.declared.component.Component.{Component}
 use Rattle.css_tokens.specs.declared.component.Block as block
-use Rattle.css_tokens.specs.Trees.{words_all}
+use Rattle.css_tokens.specs.Trees.{all_formed, words_all}
+use Rattle.selector_tree.specs.Preludes.{is_prelude_word}
 use Rattle.css_rules.specs.Contexts.{Context, outside, under_list}
 use Rattle.css_rules.specs.declared.sheet.Declaration.{Declaration}
 use Rattle.css_rules.specs.declared.sheet.Item.{Item}
@@ -13,34 +14,36 @@ use Rattle.css_rules.specs.declared.sheet.Item as item
 use Rattle.css_rules.specs.declared.sheet.Style as style
 use Rattle.std.proofs.lemmas.Grind.{flat_map-append}
 use Rattle.std.proofs.lemmas.List.{map-append}
-use Rattle.css_rules.specs.BareSelectors.{BareSelector, bare_list}
+use Rattle.selector_tree.specs.Erased.{erased}
+use Rattle.selector_tree.specs.Spelling.{list_spelling}
+use Rattle.selector_tree.specs.Signs.{list_in, mark_of}
 use Rattle.css_rules.specs.Components.{head, inside, is_braces, is_semicolon, is_at_keyword, is_gap}
 use Rattle.css_rules.specs.Cuts.{Cut, cuts, trimmed, trimmed_start, trimmed_end}
-use Rattle.css_rules.specs.Private.SelectorSteps.{selectors_in}
-use Rattle.css_rules.specs.declared.selector.Selector.{Selector}
-use Rattle.css_rules.specs.Selectors.{list_of, list_faults}
-use Rattle.css_rules.specs.ReadableSelectors.{is_readable_list}
-use Rattle.css_rules.specs.SelectorWords.{word, list_words, list_again}
+use Rattle.selector_tree.specs.declared.selector.Selector.{Selector}
+use Rattle.selector_tree.specs.ReadableSelectors.{is_readable_list}
 use Rattle.css_rules.specs.ReadAll.{joined, read_all}
 use Rattle.css_rules.specs.Sheets.{begins_at_rule, declarations_of, ends_rule, first_place, leftover, rule_of, rules_of, run_of, sheet_of, style_of, style_with}
 use Rattle.css_rules.specs.Runs.{Run, BareRun, BareDeclaration, bare_run, bare_declaration, runs_within, bare_runs, runs_within-Plain, runs_within-Style}
-use Rattle.css_rules.specs.Printable.{IsPrintable, IsPrintableDeclaration, ArePrintable, is_nesting}
+use Rattle.css_rules.specs.Refusals.{has_waiting}
+use Rattle.css_rules.specs.Printable.{IsPrintable, IsPrintableDeclaration, ArePrintable}
 use Rattle.css_rules.specs.SheetAgain.{line_feed, declarations_again, block_again, run_again, sheet_again}
 use Rattle.css_rules.proofs.CutLemmas.{front-cut, goes_on, trimmed_start-gap, whole-cut}
-use Rattle.css_rules.proofs.ListsRead.{list-whole}
 use Rattle.css_rules.proofs.ReadAllLemmas.{mapped-joined}
 use Rattle.css_rules.proofs.CutAgain.{any-append, any-trimmed_end}
 use Rattle.css_rules.proofs.DeclarationLemmas.{or_false_left, or_false_right}
-use Rattle.css_rules.proofs.Heads.{piece_of, inside-Block, at-Single, braces-Single, braces-Block, braces-singles, gap-Single, semicolon-Single}
+use Rattle.css_rules.proofs.Heads.{piece_of, word, inside-Block, at-Single, braces-Single, braces-Block, gap-Single, semicolon-Single}
 use Rattle.css_rules.proofs.ValueFacts.{ValueLaws}
 use Rattle.css_rules.proofs.DeclarationAgain.{read_again}
 use Rattle.css_rules.proofs.SheetRound.{NameLaws, declarations-again, bares-again}
-use Rattle.css_rules.proofs.PreludeAgain.{lead_of, no_at, prelude-again, undivided-list}
+use Rattle.css_rules.proofs.PreludeAgain.{lead_of, prelude-again}
+use Rattle.css_rules.proofs.SpellingErased.{spelling-erased}
+use Rattle.css_rules.proofs.PreludeTests.{no-at, no-braces, no-semicolon}
 
 -- what is ensured of printed selectors
 pub record SelectorLaws : Type 0 where
-  pub sound : (bs : List BareSelector) (cs : List Component) (end : ℕ) → IsTrue (is_readable_list bs) → words_all cs ≡ words_all (list_again bs) → list_faults cs end ≡ []
-  pub same : (bs : List BareSelector) (cs : List Component) → IsTrue (is_readable_list bs) → words_all cs ≡ words_all (list_again bs) → option_map bare_list (list_of cs) ≡ Some bs
+  pub formed : (ss : List Selector) → IsTrue (all_formed (list_spelling ss))
+  pub plain : (ss : List Selector) → IsTrue (list_all is_prelude_word (words_all (list_spelling ss)))
+  pub same : (ss : List Selector) → IsTrue (is_readable_list false ss) → option_map (map erased) (list_in (map mark_of (list_spelling ss))) ≡ Some (map erased ss)
 
 lead_braces : (b : Bool) → list_any is_braces (lead_of b) ≡ false
 lead_braces true = ap (λ b. b || false) (braces-Single (piece_of (word kinds.White (10 ∷ []))))
@@ -62,26 +65,26 @@ goes-rule before (c ∷ cs) b s =
     ∙ goes-rule (before ++ c ∷ []) cs (or_false_right (is_braces c) (list_any is_braces cs) b) (or_false_right (is_semicolon c) (list_any is_semicolon cs) s)
 
 -- the first cut of a printed sheet is its first rule
-cut-again : (b : Bool) (list : List BareSelector) (ds : List Declaration) (rest : List Component) → list_any is_nesting list ≡ false
-    → cuts ends_rule (lead_of b ++ ((list_again list ++ block_again ds ∷ line_feed ∷ []) ++ rest)) ≡ record { front = lead_of b ++ list_again list; mark = Some (block_again ds) } ∷ cuts ends_rule (lead_of true ++ rest)
-cut-again b list ds rest unnested =
-    let front = lead_of b ++ list_again list in
-    ap (λ cs. cuts ends_rule (lead_of b ++ cs)) (append_assoc (list_again list) (block_again ds ∷ line_feed ∷ []) rest)
-    ∙ ap (cuts ends_rule) (sym (append_assoc (lead_of b) (list_again list) (block_again ds ∷ line_feed ∷ rest)))
+cut-again : SelectorLaws → (b : Bool) (list : List Selector) (ds : List Declaration) (rest : List Component)
+    → cuts ends_rule (lead_of b ++ ((list_spelling list ++ block_again ds ∷ line_feed ∷ []) ++ rest)) ≡ record { front = lead_of b ++ list_spelling list; mark = Some (block_again ds) } ∷ cuts ends_rule (lead_of true ++ rest)
+cut-again laws b list ds rest =
+    let front = lead_of b ++ list_spelling list in
+    ap (λ cs. cuts ends_rule (lead_of b ++ cs)) (append_assoc (list_spelling list) (block_again ds ∷ line_feed ∷ []) rest)
+    ∙ ap (cuts ends_rule) (sym (append_assoc (lead_of b) (list_spelling list) (block_again ds ∷ line_feed ∷ rest)))
     ∙ front-cut ends_rule [] front (block_again ds) (line_feed ∷ rest)
     (goes-rule [] front
-    (any-append is_braces (lead_of b) (list_again list) (lead_braces b) (braces-singles (list_words list)))
-    (any-append is_semicolon (lead_of b) (list_again list) (lead_semicolon b) (undivided-list list unnested)))
+    (any-append is_braces (lead_of b) (list_spelling list) (lead_braces b) (no-braces (list_spelling list) (laws.formed list) (laws.plain list)))
+    (any-append is_semicolon (lead_of b) (list_spelling list) (lead_semicolon b) (no-semicolon (list_spelling list) (laws.formed list) (laws.plain list))))
     (ap (λ e. e || (is_semicolon (block_again ds) && begins_at_rule (trimmed_start front))) (block_marks ds))
 
 -- a printable run with its one list and its declarations in sight
 pub record IsMade (run : Run) : Type 0 where
-  pub list : List BareSelector
+  pub list : List Selector
   pub first : Declaration
   pub more : List Declaration
-  pub is : run ≡ record { context = under_list list outside; declarations = first ∷ more }
-  pub readable : IsTrue (is_readable_list list)
-  pub unnested : list_any is_nesting list ≡ false
+  pub is : run ≡ record { context = under_list (map erased list) outside; declarations = first ∷ more }
+  pub readable : IsTrue (is_readable_list false list)
+  pub built : has_waiting (list_spelling list) ≡ false
   pub each : AllByRecursion IsPrintableDeclaration (first ∷ more)
 
 pub made : (run : Run) → IsPrintable run → IsMade run
@@ -89,9 +92,9 @@ made run p = record {
   list = p.selectors.0;
   first = p.some.0;
   more = p.some.1;
-  is = ap (λ chain. record { context = chain; declarations = run.declarations }) p.selectors.1 ∙ ap (λ ds. record { context = under_list p.selectors.0 outside; declarations = ds }) p.some.2;
+  is = ap (λ chain. record { context = chain; declarations = run.declarations }) p.selectors.1 ∙ ap (λ ds. record { context = under_list (map erased p.selectors.0) outside; declarations = ds }) p.some.2;
   readable = p.selectors.2;
-  unnested = p.selectors.3;
+  built = p.selectors.3;
   each = let All : List Declaration → Type 0 = AllByRecursion IsPrintableDeclaration in subst All p.some.2 p.each;
 }
 
@@ -112,11 +115,11 @@ lead_at true = ap (λ b. b || false) (at-Single (piece_of (word kinds.White (10 
 lead_at false = refl
 
 -- no printed rule is an at-rule
-plain_rule : (b : Bool) (list : List BareSelector) → list_any is_nesting list ≡ false → begins_at_rule (trimmed (lead_of b ++ list_again list)) ≡ false
-plain_rule b list unnested =
-    let front = lead_of b ++ list_again list in
+plain_rule : SelectorLaws → (b : Bool) (list : List Selector) → begins_at_rule (trimmed (lead_of b ++ list_spelling list)) ≡ false
+plain_rule laws b list =
+    let front = lead_of b ++ list_spelling list in
     no_rule (trimmed front)
-    (any-trimmed_end is_at_keyword (trimmed_start front) (any-trimmed_start is_at_keyword front (any-append is_at_keyword (lead_of b) (list_again list) (lead_at b) (no_at list unnested))))
+    (any-trimmed_end is_at_keyword (trimmed_start front) (any-trimmed_start is_at_keyword front (any-append is_at_keyword (lead_of b) (list_spelling list) (lead_at b) (no-at (list_spelling list) (laws.formed list) (laws.plain list)))))
 
 trimmed-lead : (b : Bool) → trimmed (lead_of b) ≡ []
 trimmed-lead true = ap trimmed_end (trimmed_start-gap line_feed [] (gap-Single (piece_of (word kinds.White (10 ∷ [])))))
@@ -136,37 +139,39 @@ both-say : (xs ys : List Item) → items_say (xs ++ ys) ≡ items_say xs ++ item
 both-say xs ys = ap (map bare_run) (flat_map-append (λ item. runs_within item outside) xs ys) ∙ map-append bare_run (runs_in xs) (runs_in ys)
 
 module _ (values : ValueLaws) (names : NameLaws) (selectors : SelectorLaws) where
-  -- the selectors of a printed list say what it was printed from
-  bare-again : (list : List BareSelector) → IsTrue (is_readable_list list) → bare_list (selectors_in (list_again list)) ≡ list
-  bare-again list readable =
-      let sound = selectors.sound list (list_again list) 0 readable refl in
-      let same = ap (option_map bare_list) (sym (list-whole (list_again list) 0 sound)) ∙ selectors.same list (list_again list) readable refl in
-      cc same
-
   -- what the rule says that is read from a printed one
   style-says : (list : List Selector) (d : Declaration) (ds : List Declaration) (at : ℕ) → AllByRecursion IsPrintableDeclaration (d ∷ ds)
-      → items_say (item.Style (record { selectors = list; items = run_of (map read_again (d ∷ ds)); at = at }) ∷ []) ≡ record { context = under_list (bare_list list) outside; declarations = map bare_declaration (d ∷ ds) } ∷ []
+      → items_say (item.Style (record { selectors = list; items = run_of (map read_again (d ∷ ds)); at = at }) ∷ []) ≡ record { context = under_list (map erased list) outside; declarations = map bare_declaration (d ∷ ds) } ∷ []
   style-says list d ds at printable =
-      let chain : Context = under_list (bare_list list) outside in
+      let chain : Context = under_list (map erased list) outside in
       let rule : style.Style = record { selectors = list; items = run_of (map read_again (d ∷ ds)); at = at } in
       ap (λ (rs : List Run). map bare_run (rs ++ [])) (runs_within-Style rule outside)
       ∙ ap (λ (rs : List Run). map bare_run ((rs ++ []) ++ [])) (runs_within-Plain (map read_again (d ∷ ds)) chain)
       ∙ ap (λ (bs : List BareDeclaration). record { context = chain; declarations = bs } ∷ []) (bares-again values (d ∷ ds) printable)
 
+  -- the same where the selectors are read or not
+  abbrev said_of : List BareDeclaration → Option (List Selector) → Option (List BareRun)
+  said_of bs o = option_map (λ (list : List Selector). record { context = under_list list outside; declarations = bs } ∷ []) o
+
+  styles-say : (o : Option (List Selector)) (d : Declaration) (ds : List Declaration) (at : ℕ) → AllByRecursion IsPrintableDeclaration (d ∷ ds)
+      → option_map items_say (style_with at o (Some (map read_again (d ∷ ds)))) ≡ said_of (map bare_declaration (d ∷ ds)) (option_map (map erased) o)
+  styles-say None d ds at printable = refl
+  styles-say (Some list) d ds at printable = ap Some (style-says list d ds at printable)
+
   -- a printed rule is read as one that says the same
-  rule-again : (b : Bool) (list : List BareSelector) (d : Declaration) (ds : List Declaration) → IsTrue (is_readable_list list) → list_any is_nesting list ≡ false → AllByRecursion IsPrintableDeclaration (d ∷ ds)
-      → option_map items_say (rule_of (record { front = lead_of b ++ list_again list; mark = Some (block_again (d ∷ ds)) })) ≡ Some (record { context = under_list list outside; declarations = map bare_declaration (d ∷ ds) } ∷ [])
-  rule-again b list d ds readable unnested printable =
-      let front = lead_of b ++ list_again list in
+  rule-again : (b : Bool) (list : List Selector) (d : Declaration) (ds : List Declaration) → IsTrue (is_readable_list false list) → has_waiting (list_spelling list) ≡ false → AllByRecursion IsPrintableDeclaration (d ∷ ds)
+      → option_map items_say (rule_of (record { front = lead_of b ++ list_spelling list; mark = Some (block_again (d ∷ ds)) })) ≡ Some (record { context = under_list (map erased list) outside; declarations = map bare_declaration (d ∷ ds) } ∷ [])
+  rule-again b list d ds readable built printable =
+      let front = lead_of b ++ list_spelling list in
       let brace = block_again (d ∷ ds) in
       let at = first_place (trimmed front) (head brace).at in
-      let read : List Selector = selectors_in (list_again list) in
+      let read : Option (List Selector) = list_in (map mark_of (list_spelling list)) in
       let inner = ap declarations_of (inside-Block (brace_of (d ∷ ds))) ∙ declarations-again values names d ds printable in
-      ap (λ waits. option_map items_say (cond waits None (style_of front (Some brace)))) (plain_rule b list unnested)
-      ∙ ap (λ o. option_map items_say (style_with at o (declarations_of (inside brace)))) (prelude-again b list unnested (selectors.sound list (list_again list) 0 readable refl))
-      ∙ ap (λ o. option_map items_say (style_with at (Some read) o)) inner
-      ∙ ap Some (style-says read d ds at printable)
-      ∙ ap (λ (l : List BareSelector). Some (record { context = under_list l outside; declarations = map bare_declaration (d ∷ ds) } ∷ [])) (bare-again list readable)
+      ap (λ waits. option_map items_say (cond waits None (style_of front (Some brace)))) (plain_rule selectors b list)
+      ∙ ap (λ o. option_map items_say (style_with at o (declarations_of (inside brace)))) (prelude-again b (list_spelling list) built)
+      ∙ ap (λ o. option_map items_say (style_with at read o)) inner
+      ∙ styles-say read d ds at printable
+      ∙ ap (said_of (map bare_declaration (d ∷ ds))) (selectors.same list readable)
 
   rules-again : (b : Bool) (runs : List Run) → ArePrintable runs → option_map items_say (rules_of (lead_of b ++ sheet_again runs)) ≡ Some (map bare_run runs)
   rules-again b [] p =
@@ -175,13 +180,15 @@ module _ (values : ValueLaws) (names : NameLaws) (selectors : SelectorLaws) wher
       ∙ ap (λ cs. option_map items_say (joined (cond (begins_at_rule cs) None (leftover cs)) (Some []))) (trimmed-lead b)
   rules-again b (run ∷ runs) p =
       let m = made run p.0 in
+      let ds = m.first ∷ m.more in
       let Again : Run → Type 0 = λ r. option_map items_say (rules_of (lead_of b ++ (run_again r ++ sheet_again runs))) ≡ Some (bare_run r ∷ map bare_run runs) in
       subst Again (sym m.is)
-      (let cut : Cut = record { front = lead_of b ++ list_again m.list; mark = Some (block_again (m.first ∷ m.more)) } in
-      ap (λ ks. option_map items_say (read_all rule_of ks)) (cut-again b m.list (m.first ∷ m.more) (sheet_again runs) m.unnested)
+      (let cut : Cut = record { front = lead_of b ++ list_spelling m.list; mark = Some (block_again ds) } in
+      ap (λ (front : List Component). option_map items_say (rules_of (lead_of b ++ ((front ++ block_again ds ∷ line_feed ∷ []) ++ sheet_again runs)))) (spelling-erased m.list)
+      ∙ ap (λ ks. option_map items_say (read_all rule_of ks)) (cut-again selectors b m.list ds (sheet_again runs))
       ∙ mapped-joined items_say both-say (rule_of cut) (rules_of (lead_of true ++ sheet_again runs))
-      ∙ ap (λ o. joined o (option_map items_say (rules_of (lead_of true ++ sheet_again runs)))) (rule-again b m.list m.first m.more m.readable m.unnested m.each)
-      ∙ ap (option_map (λ more. record { context = under_list m.list outside; declarations = map bare_declaration (m.first ∷ m.more) } ∷ more)) (rules-again true runs p.1))
+      ∙ ap (λ o. joined o (option_map items_say (rules_of (lead_of true ++ sheet_again runs)))) (rule-again b m.list m.first m.more m.readable m.built m.each)
+      ∙ ap (option_map (λ more. record { context = under_list (map erased m.list) outside; declarations = map bare_declaration ds } ∷ more)) (rules-again true runs p.1))
 
   -- a printed sheet is read as that sheet
   pub sheet-again : (runs : List Run) → ArePrintable runs → option_map bare_runs (sheet_of (sheet_again runs)) ≡ Some (map bare_run runs)

@@ -5,7 +5,7 @@ use Rattle.std.proofs.lemmas.Grind.{flat_map-append}
 use Rattle.css_rules.specs.declared.sheet.Declaration.{Declaration}
 use Rattle.css_rules.specs.declared.sheet.Item.{Item}
 use Rattle.css_rules.specs.declared.sheet.Sheet.{Sheet}
-use Rattle.css_rules.specs.BareSelectors.{bare_list}
+use Rattle.selector_tree.specs.Erased.{erased}
 use Rattle.css_rules.specs.Contexts.{Context, outside, under_list}
 use Rattle.css_rules.specs.ItemInduction.{Each, by_items}
 use Rattle.css_rules.specs.Runs.{Run, bare_run, bare_runs, bare_declaration, runs_within, runs_within-Plain, runs_within-Style}
@@ -38,7 +38,7 @@ said : (x : Item) → Said x
 said x =
     by_items Said (record {
       plain = λ ds c. says-Plain ds c ∙ declares-map c ds ∙ sym (ap of_runs (runs_within-Plain ds c) ∙ append-nil (map (Declares c) (map bare_declaration ds)));
-      style = λ s each c. says-Style s c ∙ all-said s.items each (under_list (bare_list s.selectors) c) ∙ sym (ap of_runs (runs_within-Style s c));
+      style = λ s each c. says-Style s c ∙ all-said s.items each (under_list (map erased s.selectors) c) ∙ sym (ap of_runs (runs_within-Style s c));
     }) x
 
 every : (xs : List Item) → Each Said xs

@@ -1,6 +1,6 @@
 -- The text of a printed sheet reads as the words of its components.
-use Rattle.std.proofs.Common.{◌≡◌, ℕ, List, [], ◌∷◌, ◌++◌, flat_map, Bool, true, false, ◌&&◌, not, refl, sym, ◌∙◌, ap, subst, IsTrue, codes, length, drop, Option, Some, None, is_none, cond}
-use Rattle.std.specs.List.{list_all, AllByRecursion}
+use Rattle.std.proofs.Common.{◌≡◌, ℕ, List, [], ◌∷◌, ◌++◌, map, Bool, true, false, not, refl, sym, ◌∙◌, ap, subst, IsTrue, codes, length, drop}
+use Rattle.std.specs.List.{AllByRecursion}
 use Rattle.std.proofs.lemmas.List.{append_assoc, append-nil}
 use Rattle.css_tokens.specs.declared.kind.Kind.TheVariants as kinds
 use Rattle.css_tokens.specs.declared.component.Component.{Component}
@@ -16,28 +16,24 @@ use Rattle.css_tokens.specs.Values.{value_text, value_words}
 use Rattle.css_tokens.specs.ValueAgain.{value_again}
 use Rattle.css_rules.specs.Contexts.{outside, under_list}
 use Rattle.css_rules.specs.declared.sheet.Declaration.{Declaration}
-use Rattle.css_rules.specs.declared.selector.Combinator.{Combinator}
-use Rattle.css_rules.specs.declared.selector.TypeName.{TypeName}
-use Rattle.css_rules.specs.declared.selector.TypeName.TheVariants as types
-use Rattle.css_rules.specs.declared.selector.Simple.{Simple}
-use Rattle.css_rules.specs.declared.selector.Simple.TheVariants as simples
-use Rattle.css_rules.specs.BareSelectors.{BareSelector}
-use Rattle.css_rules.specs.ReadableSelectors.{is_readable_list, is_readable_selector, is_readable_compound, is_readable_simple}
+use Rattle.selector_tree.specs.declared.selector.Selector.{Selector}
+use Rattle.selector_tree.specs.Erased.{erased}
+use Rattle.selector_tree.specs.Spelling.{colon, list_spelling, list_text}
+use Rattle.selector_tree.specs.ReadableSelectors.{is_readable_list}
 use Rattle.css_rules.specs.Components.{is_gap}
 use Rattle.css_rules.specs.Runs.{Run}
 use Rattle.css_rules.specs.Printable.{IsPrintableDeclaration, ArePrintable, begins_solid}
 use Rattle.css_rules.specs.Standing.{Stands, AllStand}
-use Rattle.css_rules.specs.SelectorTexts.{list_text, selector_text, compound_text, type_text, simple_text, more_text, links_text, ends_in_dashes, lead_text}
-use Rattle.css_rules.specs.SelectorWords.{word, single_of, list_again}
-use Rattle.css_rules.specs.SheetTexts.{innermost, runs_text}
-use Rattle.css_rules.specs.SheetAgain.{colon, semicolon, line_feed, value_or_space, importance_again, declaration_again, declarations_again, block_again, run_again, sheet_again}
-use Rattle.css_rules.proofs.CleanTexts.{clean-bad, sheet-clean, sheet-unmarked}
-use Rattle.css_rules.proofs.NameStarts.{important-name}
+use Rattle.css_rules.specs.SheetTexts.{runs_text}
+use Rattle.css_rules.specs.SheetAgain.{semicolon, line_feed, value_or_space, importance_again, declaration_again, declarations_again, block_again, run_again, sheet_again}
+use Rattle.css_rules.proofs.CleanTexts.{ListTexts, clean-bad, sheet-clean, sheet-unmarked}
+use Rattle.css_rules.proofs.Heads.{single_of, word}
+use Rattle.css_rules.proofs.ImportantNames.{important-name}
 use Rattle.css_rules.proofs.PreludeAgain.{words-cons}
-use Rattle.css_rules.proofs.SelectorSpelling.{and-left, and-right}
 use Rattle.css_rules.proofs.RulesAgain.{made}
 use Rattle.css_rules.proofs.ValueFacts.{ValueLaws, printed-some}
-use Rattle.css_rules.proofs.SheetSpelled.{text_of, words-append, text-append, text-cons, words-brace, text-brace, text-importance, text-sheet, ListText}
+use Rattle.css_rules.proofs.SheetSpelled.{text_of, words-append, text-append, text-cons, words-brace, text-brace, text-importance, text-sheet}
+use Rattle.css_rules.proofs.SpellingErased.{spelling-erased}
 
 -- what is ensured of tokens that are written one after another
 pub record ReadLaws : Type 0 where
@@ -50,7 +46,9 @@ pub record ReadLaws : Type 0 where
   pub plain : (n : List ℕ) → IsTrue (is_plain_name n) → name_text n ≡ n
   pub printed : (v : List Component) (s r : List ℕ) → IsTrue (all_formed v) → is_stop (classes_of s) ≡ true → is_stop (classes_of r) ≡ true → begins_none white r ≡ true
       → ReadsTo (spelled (words_all v) ++ s) (words_all v) s → ReadsTo (value_text v ++ r) (value_words v) r
-  pub listed : (bs : List BareSelector) (rest : List ℕ) → IsTrue (is_readable_list bs) → ReadsTo (list_text bs ++ (codes "{" ++ rest)) (words_all (list_again bs)) (codes "{" ++ rest)
+  pub listed : (ss : List Selector) (rest : List ℕ) → IsTrue (is_readable_list false ss) → ReadsTo (list_text ss ++ (codes "{" ++ rest)) (words_all (list_spelling ss)) (codes "{" ++ rest)
+  pub begins : (ss : List Selector) (rest : List ℕ) → IsTrue (is_readable_list false ss) → begins_none white (list_text ss ++ rest) ≡ true
+  pub texts : ListTexts
 
 -- the components' text reads as their words, and then the rest is left
 abbrev pub ReadsOn : List Component → List ℕ → Type 0
@@ -182,75 +180,44 @@ module _ (laws : ReadLaws) where
       let Q : List Word → Type 0 = λ ws. ReadsTo (codes "{" ++ (text_of inner ++ behind)) ws rest in
       subst P (sym whole) (subst Q (sym (words-brace (d ∷ ds) (line_feed ∷ []))) opened)
 
-  run-reads : ValueLaws → ListText → (list : List BareSelector) (d : Declaration) (ds : List Declaration) → IsTrue (is_readable_list list) → AllByRecursion IsPrintableDeclaration (d ∷ ds) → AllByRecursion Stands (d ∷ ds)
-      → (rest : List ℕ) → begins_none white rest ≡ true → ReadsOn (list_again list ++ block_again (d ∷ ds) ∷ line_feed ∷ []) rest
-  run-reads values lists list d ds readable p stands rest white_rest =
+  run-reads : ValueLaws → (list : List Selector) (d : Declaration) (ds : List Declaration) → IsTrue (is_readable_list false list) → AllByRecursion IsPrintableDeclaration (d ∷ ds) → AllByRecursion Stands (d ∷ ds)
+      → (rest : List ℕ) → begins_none white rest ≡ true → ReadsOn (list_spelling list ++ block_again (d ∷ ds) ∷ line_feed ∷ []) rest
+  run-reads values list d ds readable p stands rest white_rest =
       let tail = block_again (d ∷ ds) ∷ line_feed ∷ [] in
       let inner = text_of (declarations_again (d ∷ ds)) ++ (codes "}" ++ text_of (line_feed ∷ [])) in
       let whole : text_of tail ++ rest ≡ codes "{" ++ (inner ++ rest) = ap (λ t. t ++ rest) (text-brace (d ∷ ds) (line_feed ∷ [])) in
-      let P : List ℕ → Type 0 = λ t. ReadsTo (text_of (list_again list) ++ t) (words_all (list_again list)) t in
-      let Q : List ℕ → Type 0 = λ t. ReadsTo (t ++ (codes "{" ++ (inner ++ rest))) (words_all (list_again list)) (codes "{" ++ (inner ++ rest)) in
-      on-append (list_again list) tail rest (subst P (sym whole) (subst Q (sym (lists.text list)) (laws.listed list (inner ++ rest) readable))) (block-reads values d ds p stands rest white_rest)
+      let P : List ℕ → Type 0 = λ t. ReadsTo (text_of (list_spelling list) ++ t) (words_all (list_spelling list)) t in
+      on-append (list_spelling list) tail rest (subst P (sym whole) (laws.listed list (inner ++ rest) readable)) (block-reads values d ds p stands rest white_rest)
 
-  -- a selector begins with no white space
-
-  simple-begins : (s : Simple) (rest : List ℕ) → begins_none white (simple_text s ++ rest) ≡ true
-  simple-begins (simples.Class n) rest = refl
-  simple-begins (simples.Id n) rest = refl
-  simple-begins simples.Parent rest = refl
-
-  compound-begins : (kind : TypeName) (ss : List Simple) (rest : List ℕ) → is_readable_compound (record { kind = kind; simples = ss }) ≡ true → begins_none white ((type_text kind ++ flat_map simple_text ss) ++ rest) ≡ true
-  compound-begins (types.Name n) ss rest e =
-      ap (begins_none white) (append_assoc (name_text n) (flat_map simple_text ss) rest)
-      ∙ laws.no_white n (flat_map simple_text ss ++ rest) (and-left (is_name n) (list_all is_readable_simple ss) e)
-  compound-begins types.Universal ss rest e = refl
-  compound-begins types.None [] rest e = absurd (cc e)
-  compound-begins types.None (s ∷ ss) rest e = ap (begins_none white) (append_assoc (simple_text s) (flat_map simple_text ss) rest) ∙ simple-begins s (flat_map simple_text ss ++ rest)
-
-  selector-begins : (b : BareSelector) (rest : List ℕ) → is_readable_selector b ≡ true → begins_none white (selector_text b ++ rest) ≡ true
-  selector-begins b rest e =
-      let links = links_text (ends_in_dashes (compound_text b.first)) b.rest in
-      let others = is_readable_compound b.first && list_all (λ link. is_readable_compound link.1) b.rest in
-      let lead = lead-none b.lead (and-left (is_none b.lead) others e) in
-      ap (λ o. begins_none white ((lead_text o ++ (compound_text b.first ++ links)) ++ rest)) lead
-      ∙ ap (begins_none white) (append_assoc (compound_text b.first) links rest)
-      ∙ compound-begins b.first.kind b.first.simples (links ++ rest) (and-left (is_readable_compound b.first) (list_all (λ link. is_readable_compound link.1) b.rest) (and-right (is_none b.lead) others e))
-    where
-      lead-none : (o : Option Combinator) → is_none o ≡ true → o ≡ None
-      lead-none None h = refl
-      lead-none (Some c) h = absurd (cc h)
-
-  list-begins : (bs : List BareSelector) (rest : List ℕ) → is_readable_list bs ≡ true → begins_none white (list_text bs ++ rest) ≡ true
-  list-begins [] rest e = absurd (cc e)
-  list-begins (b ∷ bs) rest e =
-      ap (begins_none white) (append_assoc (selector_text b) (more_text bs) rest)
-      ∙ selector-begins b (more_text bs ++ rest) (and-left (is_readable_selector b) (list_all is_readable_selector bs) e)
-
-  sheet-reads : ValueLaws → ListText → (runs : List Run) → ArePrintable runs → AllStand runs → ReadsOn (sheet_again runs) []
-  sheet-reads values lists [] p stands = on-end []
-  sheet-reads values lists (run ∷ runs) p stands =
+  sheet-reads : ValueLaws → (runs : List Run) → ArePrintable runs → AllStand runs → ReadsOn (sheet_again runs) []
+  sheet-reads values [] p stands = on-end []
+  sheet-reads values (run ∷ runs) p stands =
       let m = made run p.0 in
       let rest = text_of (sheet_again runs) ++ [] in
       let P : Run → Type 0 = λ r. AllByRecursion Stands r.declarations → ReadsOn (run_again r) rest in
-      let of_made : P (record { context = under_list m.list outside; declarations = m.first ∷ m.more }) = λ standing. run-reads values lists m.list m.first m.more m.readable m.each standing rest (sheet-begins values lists runs p.1) in
-      on-append (run_again run) (sheet_again runs) [] (subst P (sym m.is) of_made stands.0) (sheet-reads values lists runs p.1 stands.1)
+      let tail = block_again (m.first ∷ m.more) ∷ line_feed ∷ [] in
+      let Q : List Component → Type 0 = λ front. ReadsOn (front ++ tail) rest in
+      let of_made : P (record { context = under_list (map erased m.list) outside; declarations = m.first ∷ m.more }) = λ standing. subst Q (sym (spelling-erased m.list)) (run-reads values m.list m.first m.more m.readable m.each standing rest (sheet-begins values runs p.1)) in
+      on-append (run_again run) (sheet_again runs) [] (subst P (sym m.is) of_made stands.0) (sheet-reads values runs p.1 stands.1)
     where
-      sheet-begins : ValueLaws → ListText → (rs : List Run) → ArePrintable rs → begins_none white (text_of (sheet_again rs) ++ []) ≡ true
-      sheet-begins values lists [] p = refl
-      sheet-begins values lists (r ∷ rs) p =
+      sheet-begins : ValueLaws → (rs : List Run) → ArePrintable rs → begins_none white (text_of (sheet_again rs) ++ []) ≡ true
+      sheet-begins values [] p = refl
+      sheet-begins values (r ∷ rs) p =
           let m = made r p.0 in
-          let tail = block_again r.declarations ∷ line_feed ∷ [] in
-          let list = list_again (innermost r.context.chain) in
-          let Q : Run → Type 0 = λ q. is_readable_list (innermost q.context.chain) ≡ true in
-          ap (λ t. begins_none white (t ++ [])) (text-append (list ++ tail) (sheet_again rs) ∙ ap (λ t. t ++ text_of (sheet_again rs)) (text-append list tail ∙ ap (λ t. t ++ text_of tail) (lists.text (innermost r.context.chain))))
-          ∙ ap (begins_none white) (append_assoc (list_text (innermost r.context.chain) ++ text_of tail) (text_of (sheet_again rs)) [] ∙ append_assoc (list_text (innermost r.context.chain)) (text_of tail) (text_of (sheet_again rs) ++ []))
-          ∙ list-begins (innermost r.context.chain) (text_of tail ++ (text_of (sheet_again rs) ++ [])) (subst Q (sym m.is) m.readable)
+          let Begins : Run → Type 0 = λ q. begins_none white (text_of (run_again q ++ sheet_again rs) ++ []) ≡ true in
+          let tail = block_again (m.first ∷ m.more) ∷ line_feed ∷ [] in
+          let front = list_spelling m.list in
+          subst Begins (sym m.is)
+          (ap (λ (cs : List Component). begins_none white (text_of ((cs ++ tail) ++ sheet_again rs) ++ [])) (spelling-erased m.list)
+          ∙ ap (λ t. begins_none white (t ++ [])) (text-append (front ++ tail) (sheet_again rs) ∙ ap (λ t. t ++ text_of (sheet_again rs)) (text-append front tail))
+          ∙ ap (begins_none white) (append_assoc (list_text m.list ++ text_of tail) (text_of (sheet_again rs)) [] ∙ append_assoc (list_text m.list) (text_of tail) (text_of (sheet_again rs) ++ []))
+          ∙ laws.begins m.list (text_of tail ++ (text_of (sheet_again rs) ++ [])) m.readable)
 
   -- the text of a printed sheet reads as the words of its components
-  pub text-reads : ValueLaws → ListText → (runs : List Run) → ArePrintable runs → AllStand runs → Reads (runs_text runs) (words_all (sheet_again runs))
-  text-reads values lists runs p stands =
+  pub text-reads : ValueLaws → (runs : List Run) → ArePrintable runs → AllStand runs → Reads (runs_text runs) (words_all (sheet_again runs))
+  text-reads values runs p stands =
       let text = runs_text runs in
       let P : List ℕ → Type 0 = λ t. ReadsTo t (words_all (sheet_again runs)) [] in
-      let behind : after_mark text ≡ text = ap (λ b. drop (cond b 3 0) text) (sheet-unmarked runs p) in
-      let reads : P text = subst P (append-nil (text_of (sheet_again runs)) ∙ text-sheet values lists runs p) (sheet-reads values lists runs p stands) in
-      (ap bad_place behind ∙ clean-bad text (sheet-clean runs p), subst P (sym behind) reads)
+      let behind : after_mark text ≡ text = ap (λ n. drop n text) (sheet-unmarked laws.texts runs p) in
+      let reads : P text = subst P (append-nil (text_of (sheet_again runs)) ∙ text-sheet values runs p) (sheet-reads values runs p stands) in
+      (ap bad_place behind ∙ clean-bad text (sheet-clean laws.texts runs p), subst P (sym behind) reads)

@@ -13,7 +13,7 @@ use Rattle.css_rules.specs.Sheets.{declarations_of, ends_item, item_of}
 use Rattle.css_rules.specs.Runs.{bare_declaration}
 use Rattle.css_rules.specs.Printable.{IsPrintableDeclaration}
 use Rattle.css_rules.specs.SheetAgain.{semicolon, declaration_again, more_again, declarations_again}
-use Rattle.css_rules.specs.SelectorWords.{word}
+use Rattle.css_rules.proofs.Heads.{word}
 use Rattle.css_tokens.specs.declared.kind.Kind.TheVariants as kinds
 use Rattle.css_rules.proofs.CutLemmas.{front-cut, whole-cut}
 use Rattle.css_rules.proofs.Heads.{piece_of, braces-Single, semicolon-Single}

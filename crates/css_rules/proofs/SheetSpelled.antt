@@ -11,15 +11,14 @@ use Rattle.css_tokens.specs.NameText.{name_text}
 use Rattle.css_tokens.specs.Trees.{pieces_all, pieces_of, words_all, all_formed, is_formed, is_formed-Single, is_formed-Block, pieces_of-Block, closing}
 use Rattle.css_tokens.specs.ValueAgain.{value_again}
 use Rattle.css_rules.specs.declared.sheet.Declaration.{Declaration}
-use Rattle.css_rules.specs.BareSelectors.{BareSelector}
+use Rattle.selector_tree.specs.declared.selector.Selector.{Selector}
+use Rattle.selector_tree.specs.Spelling.{colon, list_spelling, list_text}
 use Rattle.css_rules.specs.Runs.{Run}
 use Rattle.css_rules.specs.Components.{is_gap}
 use Rattle.css_rules.specs.Printable.{IsPrintable, IsPrintableDeclaration, ArePrintable, begins_solid}
-use Rattle.css_rules.specs.SelectorTexts.{list_text}
-use Rattle.css_rules.specs.SelectorWords.{word, single_of, list_again}
 use Rattle.css_rules.specs.SheetTexts.{printed_value, importance_text, declaration_text, more_declarations, declarations_text, innermost, run_text, runs_text}
-use Rattle.css_rules.specs.SheetAgain.{colon, line_feed, value_or_space, importance_again, declaration_again, more_again, declarations_again, block_again, run_again, sheet_again}
-use Rattle.css_rules.proofs.Heads.{piece_of}
+use Rattle.css_rules.specs.SheetAgain.{line_feed, value_or_space, importance_again, declaration_again, more_again, declarations_again, block_again, run_again, sheet_again}
+use Rattle.css_rules.proofs.Heads.{piece_of, single_of, word}
 use Rattle.css_rules.proofs.PreludeAgain.{words-cons}
 use Rattle.css_rules.proofs.ValueFacts.{ValueLaws, printed-some}
 use Rattle.css_rules.proofs.RulesAgain.{brace_of}
@@ -90,28 +89,26 @@ text-declarations laws (d ∷ ds) p =
     ∙ ap (λ t. t ++ text_of (more_again ds)) (text-declaration laws d p.0)
     ∙ ap (λ t. declaration_text d ++ t) (text-more laws ds p.1)
 
--- what is ensured of the text of printed selectors
-pub record ListText : Type 0 where
-  pub text : (bs : List BareSelector) → text_of (list_again bs) ≡ list_text bs
-  pub formed : (bs : List BareSelector) → IsTrue (all_formed (list_again bs))
+-- what is ensured of printed selectors
+abbrev pub ListFormed : Type 0
+ListFormed = (ss : List Selector) → IsTrue (all_formed (list_spelling ss))
 
-pub text-run : ValueLaws → ListText → (run : Run) → IsPrintable run → text_of (run_again run) ≡ run_text run
-text-run laws lists run p =
-    let list = list_again (innermost run.context.chain) in
+pub text-run : ValueLaws → (run : Run) → IsPrintable run → text_of (run_again run) ≡ run_text run
+text-run laws run p =
+    let list = list_spelling (innermost run.context.chain) in
     text-append list (block_again run.declarations ∷ line_feed ∷ [])
-    ∙ ap (λ t. t ++ text_of (block_again run.declarations ∷ line_feed ∷ [])) (lists.text (innermost run.context.chain))
     ∙ ap (λ t. list_text (innermost run.context.chain) ++ t)
     (text-brace run.declarations (line_feed ∷ [])
     ∙ ap (λ t. codes "{" ++ (t ++ (codes "}" ++ text_of (line_feed ∷ [])))) (text-declarations laws run.declarations p.each)
     ∙ ap (λ t. codes "{" ++ (declarations_text run.declarations ++ (codes "}" ++ t))) (text-cons (word kinds.White (10 ∷ [])) []))
 
 -- the components of a printed sheet spell its text
-pub text-sheet : ValueLaws → ListText → (runs : List Run) → ArePrintable runs → text_of (sheet_again runs) ≡ runs_text runs
-text-sheet laws lists [] p = refl
-text-sheet laws lists (run ∷ runs) p =
+pub text-sheet : ValueLaws → (runs : List Run) → ArePrintable runs → text_of (sheet_again runs) ≡ runs_text runs
+text-sheet laws [] p = refl
+text-sheet laws (run ∷ runs) p =
     text-append (run_again run) (sheet_again runs)
-    ∙ ap (λ t. t ++ text_of (sheet_again runs)) (text-run laws lists run p.0)
-    ∙ ap (λ t. run_text run ++ t) (text-sheet laws lists runs p.1)
+    ∙ ap (λ t. t ++ text_of (sheet_again runs)) (text-run laws run p.0)
+    ∙ ap (λ t. run_text run ++ t) (text-sheet laws runs p.1)
 
 -- Well formed.
 
@@ -152,12 +149,12 @@ formed-declarations laws [] p = refl
 formed-declarations laws (d ∷ ds) p = formed-append (declaration_again d) (more_again ds) (formed-declaration laws d p.0) (formed-more laws ds p.1)
 
 -- they are well formed
-pub formed-sheet : ValueLaws → ListText → (runs : List Run) → ArePrintable runs → all_formed (sheet_again runs) ≡ true
+pub formed-sheet : ValueLaws → ListFormed → (runs : List Run) → ArePrintable runs → all_formed (sheet_again runs) ≡ true
 formed-sheet laws lists [] p = refl
 formed-sheet laws lists (run ∷ runs) p =
-    let list = list_again (innermost run.context.chain) in
+    let list = list_spelling (innermost run.context.chain) in
     formed-append (run_again run) (sheet_again runs)
-    (formed-append list (block_again run.declarations ∷ line_feed ∷ []) (lists.formed (innermost run.context.chain))
+    (formed-append list (block_again run.declarations ∷ line_feed ∷ []) (lists (innermost run.context.chain))
     (ap (λ b. b && all_formed (line_feed ∷ [])) (is_formed-Block (brace_of run.declarations) ∙ formed-declarations laws run.declarations p.0.each)
     ∙ formed-one (word kinds.White (10 ∷ [])) [] (is_formed-Single (piece_of (word kinds.White (10 ∷ [])))) refl))
     (formed-sheet laws lists runs p.1)

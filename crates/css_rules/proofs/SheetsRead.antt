@@ -1,20 +1,22 @@
 -- Components have a sheet exactly where it is refused for nothing, part by part.
-use Rattle.std.proofs.Common.{◌≡◌, ◌≢◌, ℕ, List, [], ◌∷◌, ◌++◌, Bool, true, false, ◌||◌, Option, Some, None, refl, sym, ◌∙◌, ap, subst, cond, length, ◌≤◌, arith}
+use Rattle.std.proofs.Common.{◌≡◌, ◌≢◌, ℕ, List, [], ◌∷◌, ◌++◌, Bool, true, false, ◌||◌, Option, Some, None, refl, sym, ◌∙◌, ap, subst, cond, length, map, ◌≤◌, arith}
+use Rattle.std.specs.Prelude.{is_some, Result, Ok, Err}
+use Rattle.css_tokens.specs.Piece.{Piece}
+use Rattle.css_tokens.specs.Trees.{pieces_all}
 use Rattle.css_tokens.specs.declared.component.Component.{Component}
 use Rattle.css_rules.specs.declared.refusal.Refusal.{Refusal}
-use Rattle.css_rules.specs.declared.refusal.Sought.TheVariants.{ColonOrBracket, Ampersand}
-use Rattle.css_rules.specs.declared.selector.Selector.{Selector}
+use Rattle.selector_tree.specs.declared.selector.Selector.{Selector}
 use Rattle.css_rules.specs.declared.sheet.Declaration.{Declaration}
 use Rattle.css_rules.specs.declared.sheet.Sheet.{Sheet}
 use Rattle.css_rules.specs.Components.{head, inside}
 use Rattle.css_rules.specs.Cuts.{Cut, cuts, trimmed}
 use Rattle.css_rules.specs.Declarations.{declaration_of}
-use Rattle.css_rules.specs.Refusals.{first_refusal, unbuilt, has_sought, sought_for, sought_in, is_unbuilt_property}
-use Rattle.css_rules.specs.Selectors.{list_of, list_faults}
-use Rattle.css_rules.specs.Sheets.{begins_at_rule, ends_rule, ends_item, is_unbuilt, built, plain_item, is_rule, item_of, declarations_of, prelude_of, style_with, first_place, leftover, style_of, rule_of, rules_of, sheet_of, declaration_refusals, plain_refusals, mark_place, item_refusals, block_refusals, first_fault, prelude_refusals_by, prelude_refusals, leftover_refusals, style_refusals, rule_refusals, sheet_refusals}
-use Rattle.css_rules.proofs.ListsRead.{told-list}
+use Rattle.css_rules.specs.Refusals.{first_refusal, first_waiting, unbuilt, unbuilt_at, waiting_in, has_sought, sought_for, sought_in, is_unbuilt_property}
+use Rattle.selector_tree.specs.Signs.{list_in, list_reading, mark_of, read}
+use Rattle.css_rules.specs.Sheets.{begins_at_rule, ends_rule, ends_item, is_unbuilt, built, plain_item, is_rule, item_of, declarations_of, prelude_of, style_with, first_place, leftover, style_of, rule_of, rules_of, sheet_of, declaration_refusals, plain_refusals, mark_place, item_refusals, block_refusals, unread, prelude_refusals, leftover_refusals, style_refusals, rule_refusals, sheet_refusals}
+use Rattle.css_rules.proofs.ListsRead.{list-given, list-read}
 use Rattle.css_rules.proofs.ReadAllLemmas.{Told, left-none, right-none, told-all, told-mapped, told-read, told-refused}
-use Rattle.css_rules.proofs.SoughtTold.{none-sought, sought-none, sought-some}
+use Rattle.css_rules.proofs.SoughtTold.{sought-none, sought-some}
 use Rattle.css_rules.proofs.RefusalLemmas.{first_refusal-none}
 use Rattle.std.specs.Option.{option_to_list}
 
@@ -57,32 +59,19 @@ block-told block = told-all item_of item_refusals item-told (cuts ends_item bloc
 
 -- Preludes.
 
-faults-told : (o : Option (List Selector)) (faults : List ℕ) → Told o faults → Told o (first_fault faults)
-faults-told None [] told = absurd (told refl)
-faults-told None (at ∷ faults) told = λ e. cc e
-faults-told (Some list) [] told = refl
-faults-told (Some list) (at ∷ faults) told = absurd (cc told)
+unread-told : (r : Result (List Selector) ℕ) → Told (read r) (unread r)
+unread-told (Err at) = λ e. cc e
+unread-told (Ok list) = refl
 
-ampersand-told : (prelude : List Component) (end : ℕ) (b : Bool) → has_sought Ampersand prelude ≡ b
-    → Told (cond b None (list_of prelude)) (sought_in Ampersand prelude ++ first_fault (list_faults prelude end))
-ampersand-told prelude end true e =
-    let found = sought-some Ampersand prelude e in
-    λ none. (let clash = sym found.2 ∙ left-none (sought_in Ampersand prelude) (first_fault (list_faults prelude end)) none in cc clash)
-ampersand-told prelude end false e =
-    subst (λ (rs : List Refusal). Told (list_of prelude) (rs ++ first_fault (list_faults prelude end))) (sym (sought-none Ampersand prelude e))
-    (faults-told (list_of prelude) (list_faults prelude end) (told-list prelude end))
-
-colon-told : (prelude : List Component) (end : ℕ) (b : Bool) → has_sought ColonOrBracket prelude ≡ b
-    → Told (cond (b || has_sought Ampersand prelude) None (list_of prelude)) (prelude_refusals_by (sought_in ColonOrBracket prelude) prelude end)
-colon-told prelude end true e =
-    let found = sought-some ColonOrBracket prelude e in
-    λ none. (let clash = ap (λ (rs : List Refusal). prelude_refusals_by rs prelude end) (sym found.2) ∙ none in cc clash)
-colon-told prelude end false e =
-    subst (λ (rs : List Refusal). Told (cond (has_sought Ampersand prelude) None (list_of prelude)) (prelude_refusals_by rs prelude end)) (sym (sought-none ColonOrBracket prelude e))
-    (ampersand-told prelude end (has_sought Ampersand prelude) refl)
+waiting-told : (waiting : Option Piece) (o : Option (List Selector)) (rs : List Refusal) → Told o rs → Told (cond (is_some waiting) None o) (unbuilt_at waiting ++ rs)
+waiting-told None o rs told = told
+waiting-told (Some token) o rs told = λ e. cc e
 
 pub prelude-told : (prelude : List Component) (end : ℕ) → Told (prelude_of prelude) (prelude_refusals prelude end)
-prelude-told prelude end = colon-told prelude end (has_sought ColonOrBracket prelude) refl
+prelude-told prelude end =
+    let reading = list_reading false prelude end in
+    waiting-told (first_waiting (pieces_all prelude)) (list_in (map mark_of prelude)) (unread reading)
+    (subst (λ (o : Option (List Selector)). Told o (unread reading)) (list-read prelude end) (unread-told reading))
 
 -- Rules.
 
@@ -131,9 +120,11 @@ pub plain-found : (cs : List Component) (o : Option Declaration) (at : ℕ) → 
 plain-found [] o at some is none = absurd (omega (arith, some))
 plain-found (c ∷ cs) o at some is none = ap built (sym is) ∙ built-found o at none
 
-pub prelude-found : (prelude : List Component) (list : List Selector) → first_refusal (sought_in ColonOrBracket prelude) ≡ None → first_refusal (sought_in Ampersand prelude) ≡ None
-    → list_of prelude ≡ Some list → prelude_of prelude ≡ Some list
-prelude-found prelude list colon ampersand e =
-    ap (λ b. cond (b || has_sought Ampersand prelude) None (list_of prelude)) (none-sought ColonOrBracket prelude (first_refusal-none (sought_in ColonOrBracket prelude) colon))
-    ∙ ap (λ b. cond b None (list_of prelude)) (none-sought Ampersand prelude (first_refusal-none (sought_in Ampersand prelude) ampersand))
-    ∙ e
+none-waits : (waiting : Option Piece) → first_refusal (unbuilt_at waiting) ≡ None → is_some waiting ≡ false
+none-waits None e = refl
+none-waits (Some token) e = absurd (cc e)
+
+pub prelude-found : (prelude : List Component) (end : ℕ) (list : List Selector) → first_refusal (waiting_in prelude) ≡ None → list_reading false prelude end ≡ Ok list → prelude_of prelude ≡ Some list
+prelude-found prelude end list none e =
+    ap (λ b. cond b None (list_in (map mark_of prelude))) (none-waits (first_waiting (pieces_all prelude)) none)
+    ∙ list-given prelude end list e

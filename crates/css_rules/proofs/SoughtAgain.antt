@@ -9,7 +9,7 @@ use Rattle.css_tokens.specs.Trees.{pieces_all, words_all, all_formed}
 use Rattle.css_tokens.specs.Values.{is_gap, is_white, short_text, short_word, before_run, single_gaps, after_gap, before_gap, word_kind, printed_words, shortened_words, parted, parting_word, behind_taking, takes_space}
 use Rattle.css_tokens.specs.ValueAgain.{value_again}
 use Rattle.css_rules.specs.declared.refusal.Sought.{Sought}
-use Rattle.css_rules.specs.declared.refusal.Sought.TheVariants.{ColonOrBracket, Ampersand, RevertLayer, RevertLayerOrUrl}
+use Rattle.css_rules.specs.declared.refusal.Sought.TheVariants.{RevertLayer, RevertLayerOrUrl}
 use Rattle.css_rules.specs.Refusals.{is_sought, has_sought}
 use Rattle.css_rules.proofs.DeclarationLemmas.{or_false_left, or_false_right}
 use Rattle.css_rules.proofs.ValueFacts.{ValueLaws}
@@ -19,8 +19,6 @@ abbrev pub word_sought : Sought → Word → Bool
 word_sought sought w = is_sought sought (record { kind = w.kind; text = w.text; at = 0 })
 
 sought-place : (sought : Sought) (p : Piece) → word_sought sought (word_of p) ≡ is_sought sought p
-sought-place ColonOrBracket p = refl
-sought-place Ampersand p = refl
 sought-place RevertLayer p = refl
 sought-place RevertLayerOrUrl p = refl
 
@@ -33,10 +31,6 @@ sought-words sought cs = same (pieces_all cs)
     same (p ∷ ps) = ap (λ b. b || list_any (is_sought sought) ps) (sym (sought-place sought p)) ∙ ap (λ b. word_sought sought (word_of p) || b) (same ps)
 
 short-sought : (sought : Sought) (k : Kind) (text : List ℕ) → word_sought sought (record { kind = k; text = short_text k text }) ≡ word_sought sought (record { kind = k; text = text })
-short-sought ColonOrBracket kinds.Open text = refl
-short-sought ColonOrBracket _ text = refl
-short-sought Ampersand kinds.Delim text = refl
-short-sought Ampersand _ text = refl
 short-sought RevertLayer kinds.Ident text = refl
 short-sought RevertLayer _ text = refl
 short-sought RevertLayerOrUrl kinds.Ident text = refl
@@ -93,8 +87,6 @@ module _ (test : Word → Bool) where
       ∙ any-behind (takes_space w) (parted word_kind parting_word takes_space ws) e (any-parted ws e (or_false_right (test w) (list_any test ws) f))
 
 parting-unsought : (sought : Sought) → word_sought sought parting_word ≡ false
-parting-unsought ColonOrBracket = refl
-parting-unsought Ampersand = refl
 parting-unsought RevertLayer = refl
 parting-unsought RevertLayerOrUrl = refl
 

@@ -9,7 +9,7 @@ use Rattle.css_tokens.specs.declared.component.Block as block
 use Rattle.css_tokens.specs.Piece.{Piece}
 use Rattle.css_tokens.specs.Trees.{pieces_of, pieces_all, closing, pieces_of-Block}
 use Rattle.css_rules.specs.declared.refusal.Sought.{Sought}
-use Rattle.css_rules.specs.declared.refusal.Sought.TheVariants.{ColonOrBracket, Ampersand, RevertLayer, RevertLayerOrUrl}
+use Rattle.css_rules.specs.declared.refusal.Sought.TheVariants.{RevertLayer, RevertLayerOrUrl}
 use Rattle.css_rules.specs.Refusals.{is_sought}
 
 abbrev pub place_found : Sought → List Piece → Option ℕ
@@ -28,8 +28,6 @@ or-none (Some a) = refl
 
 -- no token that closes is sought
 closing-unsought : (sought : Sought) (opening : Piece) (at : ℕ) → place_found sought (closing opening at ∷ []) ≡ None
-closing-unsought ColonOrBracket opening at = refl
-closing-unsought Ampersand opening at = refl
 closing-unsought RevertLayer opening at = refl
 closing-unsought RevertLayerOrUrl opening at = refl
 

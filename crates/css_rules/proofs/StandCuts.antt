@@ -20,7 +20,7 @@ use Rattle.css_rules.proofs.CutAgain.{trimmed_end-solid}
 use Rattle.css_rules.proofs.CutLemmas.{cuts-unmarked, cuts-marked, trimmed_start-gap, trimmed_start-other}
 use Rattle.css_rules.proofs.Heads.{head-Single, ident-Single, ident-Block, gap-Single, gap-Block, semicolon-Single, semicolon-Block, bang-Single, bang-Block}
 use Rattle.css_rules.proofs.ImportantNames.{important-stop}
-use Rattle.css_rules.proofs.SelectorSpelling.{and-left, and-right}
+use Rattle.css_rules.proofs.BoolLemmas.{and-left, and-right}
 use Rattle.css_rules.proofs.StandLists.{ReadingLaws, AreRead, IsStop, StandsAt, StandsBefore, words-Single, first-stays, stands-front, stands-back, stands-tail, single-stop}
 use Rattle.css_rules.proofs.ValueFacts.{shape_of}
 

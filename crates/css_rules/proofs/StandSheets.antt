@@ -1,5 +1,5 @@
 -- Each value of a sheet stands in the sheet's text before a stop.
-use Rattle.std.proofs.Common.{◌≡◌, ℕ, List, [], ◌∷◌, ◌++◌, Bool, true, false, ◌&&◌, ◌||◌, not, refl, sym, ◌∙◌, ap, subst, Option, Some, None, flat_map, inl, inr}
+use Rattle.std.proofs.Common.{◌≡◌, ℕ, List, [], ◌∷◌, ◌++◌, Bool, true, false, ◌&&◌, ◌||◌, not, refl, sym, ◌∙◌, ap, subst, Option, Some, None, flat_map, map, inl, inr}
 use Rattle.std.specs.Prelude.{if◌then◌else◌}
 use Rattle.std.specs.List.{AllByRecursion}
 use Rattle.std.proofs.lemmas.List.{append-nil}
@@ -15,7 +15,8 @@ use Rattle.css_rules.specs.declared.sheet.Item.{Item}
 use Rattle.css_rules.specs.declared.sheet.Item as item
 use Rattle.css_rules.specs.declared.sheet.Style as style
 use Rattle.css_rules.specs.declared.sheet.Sheet.{Sheet}
-use Rattle.css_rules.specs.BareSelectors.{BareSelector, bare_list}
+use Rattle.selector_tree.specs.declared.selector.Selector.{Selector}
+use Rattle.selector_tree.specs.Erased.{erased}
 use Rattle.css_rules.specs.Components.{head, inside, is_ident, is_colon, is_bang, is_semicolon, is_braces, is_custom, name_of}
 use Rattle.css_rules.specs.Cuts.{Cut, cuts, cuts_at, trimmed, trimmed_start}
 use Rattle.css_rules.specs.Declarations.{property_name, after_colon, may_be_value, is_important, value_of, declared, declared_after, declaration_of, begins_custom}
@@ -141,7 +142,7 @@ module _ (laws : ReadingLaws) where
   abbrev at_top : Item → List Run
   at_top i = runs_within i outside
 
-  items-stand : (list : List BareSelector) (ds : List Declaration) → AllByRecursion Stands ds → AllStand (flat_map (λ i. runs_within i (under_list list outside)) (run_of ds))
+  items-stand : (list : List Selector) (ds : List Declaration) → AllByRecursion Stands ds → AllStand (flat_map (λ i. runs_within i (under_list list outside)) (run_of ds))
   items-stand list [] each = tt
   items-stand list (d ∷ ds) each =
       subst (λ (runs : List Run). AllStand runs)
@@ -150,7 +151,7 @@ module _ (laws : ReadingLaws) where
 
   style-stands : (s : style.Style) (ds : List Declaration) → s.items ≡ run_of ds → AllByRecursion Stands ds → AllStand (flat_map at_top (item.Style s ∷ []))
   style-stands s ds is each =
-      let list = bare_list s.selectors in
+      let list = map erased s.selectors in
       subst (λ (runs : List Run). AllStand runs)
       (sym (append-nil (at_top (item.Style s)) ∙ runs_within-Style s outside ∙ ap (λ (items : List Item). flat_map (λ i. runs_within i (under_list list outside)) items) is))
       (items-stand list ds each)

@@ -1,7 +1,7 @@
--- Components whose tokens all stand within a text, and the faults of a selector list made of them.
-use Rattle.std.proofs.Common.{◌≡◌, ℕ, ◌≤◌, List, [], ◌∷◌, ◌++◌, Bool, true, false, ◌&&◌, not, refl, sym, ◌∙◌, ap, Option, Some, None, MatchOption, inl, inr, nat_le, le-leb}
-use Rattle.std.specs.Prelude.{is_some, unwrap_or, if◌then◌else◌}
-use Rattle.std.specs.List.{list_all, find, filter_map, cons_option, AllByRecursion}
+-- Components whose tokens all stand within a text, and the fault of a selector list made of them.
+use Rattle.std.proofs.Common.{◌≡◌, ℕ, ◌≤◌, List, [], ◌∷◌, ◌++◌, map, Bool, true, false, ◌&&◌, not, refl, sym, ◌∙◌, ap, Option, Some, None, MatchOption, inl, inr, nat_le, le-leb}
+use Rattle.std.specs.Prelude.{unwrap_or, if◌then◌else◌, Result, Ok, Err}
+use Rattle.std.specs.List.{list_all, find, AllByRecursion}
 use Rattle.std.specs.Option.{option_map}
 use Rattle.std.proofs.lemmas.Bool.{leb-true}
 use Rattle.std.proofs.lemmas.List.Folds.{list_all-append}
@@ -11,10 +11,13 @@ use Rattle.css_tokens.specs.declared.component.Block as block
 use Rattle.css_tokens.specs.declared.component.Component.TheVariants.{outs-Single}
 use Rattle.css_tokens.specs.Piece.{Piece}
 use Rattle.css_tokens.specs.Trees.{pieces_of, pieces_all, closing, pieces_of-Single, pieces_of-Block}
-use Rattle.css_rules.specs.Components.{head, inside, layer_items, place_of, is_comma, is_gap}
-use Rattle.css_rules.specs.Selectors.{Member, empty_before, with_component, cut_at_commas, members_of, selector_of, first_place, fault_of, list_faults}
+use Rattle.selector_tree.specs.declared.selector.Selector.{Selector}
+use Rattle.selector_tree.specs.Grammar.{Mark, Member, is_comma_sign, is_gap_sign, first_place, selector_of, empty_before, with_mark, cut_at_commas, fault_place, or_fault, member_reading, first_and, members_reading}
+use Rattle.selector_tree.specs.Signs.{mark_of, list_reading}
+use Rattle.css_rules.specs.Components.{head, inside, layer_items}
 use Rattle.css_rules.proofs.Heads.{head-Single, head-Block, inside-Block}
-use Rattle.css_rules.proofs.SelectorSpelling.{and-left, and-right, and-both}
+use Rattle.css_rules.proofs.MarkPlaces.{mark-place}
+use Rattle.css_rules.proofs.BoolLemmas.{and-left, and-right, and-both}
 use Rattle.css_rules.proofs.ValueFacts.{shape_of}
 
 module _ (end : ℕ) where
@@ -62,9 +65,6 @@ module _ (end : ℕ) where
   pub head-within : (c : Component) → is_within c ≡ true → (head c).at ≤ end
   head-within c h = leb-true (head c).at end (head-early c h)
 
-  place-within : (c : Component) → is_within c ≡ true → place_of c ≤ end
-  place-within c h = head-within c h
-
   items-early : (b : block.Block) → list_all is_early (behind b) ≡ true → list_all is_within b.items ≡ true
   items-early b h =
       let last = closing b.opening b.close ∷ [] in
@@ -77,56 +77,73 @@ module _ (end : ℕ) where
         ∙ items-early s.0 (and-right (is_early s.0.opening) (list_all is_early (behind s.0)) (block-early c s.0 s.1 h))
   ]
 
-  -- The members of a list, and its faults.
+  -- The members of a list, and its fault.
+
+  abbrev is_near : Mark → Bool
+  is_near m = nat_le m.at end
+
+  marks-near : (cs : List Component) → list_all is_within cs ≡ true → list_all is_near (map mark_of cs) ≡ true
+  marks-near [] h = refl
+  marks-near (c ∷ cs) h =
+      and-both (is_near (mark_of c)) (list_all is_near (map mark_of cs))
+      (ap (λ at. nat_le at end) (mark-place c) ∙ head-early c (and-left (is_within c) (list_all is_within cs) h))
+      (marks-near cs (and-right (is_within c) (list_all is_within cs) h))
 
   record IsMember (m : Member) : Type 0 where
-    kept : list_all is_within m.components ≡ true
+    kept : list_all is_near m.marks ≡ true
     stopped : MatchOption m.stop (Unit {0}) (λ place. place ≤ end)
 
   abbrev AreMembers : Member × List Member → Type 0
   AreMembers ms = IsMember ms.0 × AllByRecursion IsMember ms.1
 
-  one-more : (c : Component) (ms : Member × List Member) (comma : Bool) → is_within c ≡ true → AreMembers ms
-      → AreMembers (if comma then (empty_before (Some (place_of c)), ms.0 ∷ ms.1) else (with_component c ms.0, ms.1))
-  one-more c ms true h k = (record { kept = refl; stopped = place-within c h }, (k.0, k.1))
-  one-more c ms false h k = (record { kept = and-both (is_within c) (list_all is_within ms.0.components) h k.0.kept; stopped = k.0.stopped }, k.1)
+  one-more : (m : Mark) (ms : Member × List Member) (comma : Bool) → is_near m ≡ true → AreMembers ms
+      → AreMembers (if comma then (empty_before (Some m.at), ms.0 ∷ ms.1) else (with_mark m ms.0, ms.1))
+  one-more m ms true h k = (record { kept = refl; stopped = leb-true m.at end h }, (k.0, k.1))
+  one-more m ms false h k = (record { kept = and-both (is_near m) (list_all is_near ms.0.marks) h k.0.kept; stopped = k.0.stopped }, k.1)
 
-  members-within : (cs : List Component) → list_all is_within cs ≡ true → AreMembers (cut_at_commas cs)
+  members-within : (ms : List Mark) → list_all is_near ms ≡ true → AreMembers (cut_at_commas ms)
   members-within [] h = (record { kept = refl; stopped = tt }, tt)
-  members-within (c ∷ cs) h =
-      one-more c (cut_at_commas cs) (is_comma c) (and-left (is_within c) (list_all is_within cs) h) (members-within cs (and-right (is_within c) (list_all is_within cs) h))
+  members-within (m ∷ ms) h =
+      one-more m (cut_at_commas ms) (is_comma_sign m.sign) (and-left (is_near m) (list_all is_near ms) h) (members-within ms (and-right (is_near m) (list_all is_near ms) h))
 
-  found-or : (c : Component) (o : Option Component) (otherwise : ℕ) (here : Bool) → is_within c ≡ true → unwrap_or (option_map place_of o) otherwise ≤ end
-      → unwrap_or (option_map place_of (if here then Some c else o)) otherwise ≤ end
-  found-or c o otherwise true h k = place-within c h
-  found-or c o otherwise false h k = k
+  found-or : (m : Mark) (o : Option Mark) (otherwise : ℕ) (here : Bool) → is_near m ≡ true → unwrap_or (option_map (λ (x : Mark). x.at) o) otherwise ≤ end
+      → unwrap_or (option_map (λ (x : Mark). x.at) (if here then Some m else o)) otherwise ≤ end
+  found-or m o otherwise true h k = leb-true m.at end h
+  found-or m o otherwise false h k = k
 
-  first-within : (cs : List Component) (otherwise : ℕ) → list_all is_within cs ≡ true → otherwise ≤ end → unwrap_or (first_place cs) otherwise ≤ end
+  first-within : (ms : List Mark) (otherwise : ℕ) → list_all is_near ms ≡ true → otherwise ≤ end → unwrap_or (first_place ms) otherwise ≤ end
   first-within [] otherwise h k = k
-  first-within (c ∷ cs) otherwise h k =
-      found-or c (find (λ x. not (is_gap x)) cs) otherwise (not (is_gap c)) (and-left (is_within c) (list_all is_within cs) h)
-      (first-within cs otherwise (and-right (is_within c) (list_all is_within cs) h) k)
+  first-within (m ∷ ms) otherwise h k =
+      found-or m (find (λ x. not (is_gap_sign x.sign)) ms) otherwise (not (is_gap_sign m.sign)) (and-left (is_near m) (list_all is_near ms) h)
+      (first-within ms otherwise (and-right (is_near m) (list_all is_near ms) h) k)
 
   stop-within : (o : Option ℕ) (stop : ℕ) → MatchOption o (Unit {0}) (λ place. place ≤ end) → stop ≤ end → unwrap_or o stop ≤ end
   stop-within None stop h k = k
   stop-within (Some place) stop h k = h
 
-  fault-at : (at : ℕ) (read : Bool) → at ≤ end → MatchOption (if read then None else Some at) (Unit {0}) (λ place. place ≤ end)
-  fault-at at true h = tt
-  fault-at at false h = h
+  -- where there is no reading, the fault stands within
+  abbrev pub FaultWithin : {A : Type 0} → Result A ℕ → Type 0
+  FaultWithin (Ok x) = Unit {0}
+  FaultWithin (Err place) = place ≤ end
 
-  cons-within : (o : Option ℕ) (places : List ℕ) → MatchOption o (Unit {0}) (λ place. place ≤ end) → AllByRecursion (λ place. place ≤ end) places
-      → AllByRecursion (λ place. place ≤ end) (cons_option o places)
-  cons-within None places h k = k
-  cons-within (Some place) places h k = (h, k)
+  fault-at : (o : Option Selector) (place : ℕ) → place ≤ end → FaultWithin (or_fault o place)
+  fault-at None place h = h
+  fault-at (Some s) place h = tt
 
-  each-fault : (ms : List Member) (stop : ℕ) → AllByRecursion IsMember ms → stop ≤ end → AllByRecursion (λ place. place ≤ end) (filter_map (fault_of stop) ms)
+  first-fault : (r : Result Selector ℕ) (list : Result (List Selector) ℕ) → FaultWithin r → FaultWithin list → FaultWithin (first_and r list)
+  first-fault (Err place) list h k = h
+  first-fault (Ok s) (Err place) h k = k
+  first-fault (Ok s) (Ok ss) h k = tt
+
+  each-fault : (ms : List Member) (stop : ℕ) → AllByRecursion IsMember ms → stop ≤ end → FaultWithin (members_reading false stop ms)
   each-fault [] stop h k = tt
   each-fault (m ∷ ms) stop h k =
-      cons-within (fault_of stop m) (filter_map (fault_of stop) ms)
-      (fault-at (unwrap_or (first_place m.components) (unwrap_or m.stop stop)) (is_some (selector_of m.components))
-      (first-within m.components (unwrap_or m.stop stop) h.0.kept (stop-within m.stop stop h.0.stopped k)))
+      first-fault (member_reading false stop m) (members_reading false stop ms)
+      (fault-at (selector_of false m.marks) (fault_place stop m) (first-within m.marks (unwrap_or m.stop stop) h.0.kept (stop-within m.stop stop h.0.stopped k)))
       (each-fault ms stop h.1 k)
 
-  pub faults-within : (cs : List Component) (stop : ℕ) → list_all is_within cs ≡ true → stop ≤ end → AllByRecursion (λ place. place ≤ end) (list_faults cs stop)
-  faults-within cs stop h k = let ms = members-within cs h in each-fault (members_of cs) stop (ms.0, ms.1) k
+  pub fault-within : (cs : List Component) (stop : ℕ) → list_all is_within cs ≡ true → stop ≤ end → FaultWithin (list_reading false cs stop)
+  fault-within cs stop h k =
+      let ms = map mark_of cs in
+      let members = members-within ms (marks-near cs h) in
+      each-fault ((cut_at_commas ms).0 ∷ (cut_at_commas ms).1) stop (members.0, members.1) k

@@ -1,6 +1,6 @@
 -- What a sheet is refused for stands within its text.
 use Rattle.std.proofs.Common.{◌≡◌, ℕ, ◌≤◌, List, [], ◌∷◌, Bool, true, false, ◌&&◌, ◌||◌, not, Option, Some, None, MatchOption, flat_map, arith, ap, subst}
-use Rattle.std.specs.Prelude.{if◌then◌else◌}
+use Rattle.std.specs.Prelude.{if◌then◌else◌, Result, Ok, Err}
 use Rattle.std.specs.List.{list_all, find, AllByRecursion}
 use Rattle.std.proofs.lemmas.Bool.{leb-true}
 use Rattle.css_tokens.specs.declared.component.Component.{Component}
@@ -8,18 +8,18 @@ use Rattle.css_tokens.specs.Piece.{Piece}
 use Rattle.css_tokens.specs.Trees.{pieces_all}
 use Rattle.css_rules.specs.declared.refusal.Refusal.{Refusal}
 use Rattle.css_rules.specs.declared.refusal.Sought.{Sought}
-use Rattle.css_rules.specs.declared.refusal.Sought.TheVariants.{ColonOrBracket, Ampersand}
+use Rattle.selector_tree.specs.declared.selector.Selector.{Selector}
+use Rattle.selector_tree.specs.Signs.{list_reading}
 use Rattle.css_rules.specs.declared.sheet.Declaration.{Declaration}
 use Rattle.css_rules.specs.Components.{head, inside, is_ident, is_colon, is_bang, is_semicolon, is_braces, is_custom, name_of}
 use Rattle.css_rules.specs.Cuts.{Cut, cuts, cuts_at, trimmed, trimmed_start}
 use Rattle.css_rules.specs.Declarations.{property_name, after_colon, may_be_value, is_important, value_of, declared, declared_after, declaration_of, begins_custom}
-use Rattle.css_rules.specs.Refusals.{leads, sooner, sooner_of, unbuilt, first_refusal, is_sought, unbuilt_at, sought_for, sought_in, is_unbuilt_property}
-use Rattle.css_rules.specs.Selectors.{list_faults}
-use Rattle.css_rules.specs.Sheets.{begins_at_rule, ends_rule, ends_item, first_place, mark_place, is_rule, declaration_refusals, plain_refusals, item_refusals, block_refusals, first_fault, prelude_refusals_by, prelude_refusals, leftover_refusals, style_refusals, rule_refusals, sheet_refusals}
+use Rattle.css_rules.specs.Refusals.{leads, sooner, sooner_of, unbuilt, first_refusal, is_sought, unbuilt_at, waits_before, first_waiting, waiting_in, sought_for, sought_in, is_unbuilt_property}
+use Rattle.css_rules.specs.Sheets.{begins_at_rule, ends_rule, ends_item, first_place, mark_place, is_rule, declaration_refusals, plain_refusals, item_refusals, block_refusals, unread, prelude_refusals, leftover_refusals, style_refusals, rule_refusals, sheet_refusals}
 use Rattle.css_rules.proofs.FromSourceDeclarations.{each-append}
 use Rattle.css_rules.proofs.FromSourceParts.{all-start, all-trimmed, IsPart, parts-cuts}
-use Rattle.css_rules.proofs.SelectorSpelling.{and-left, and-right}
-use Rattle.css_rules.proofs.Within.{is_early, is_within, early-each, within-all, pieces-early, head-within, inside-within, faults-within}
+use Rattle.css_rules.proofs.BoolLemmas.{and-left, and-right}
+use Rattle.css_rules.proofs.Within.{is_early, is_within, early-each, within-all, pieces-early, head-within, inside-within, FaultWithin, fault-within}
 
 module _ (end : ℕ) where
   abbrev IsWithin : Refusal → Type 0
@@ -142,19 +142,21 @@ module _ (end : ℕ) where
 
   -- Preludes and rules.
 
-  fault-within : (faults : List ℕ) → AllByRecursion (λ place. place ≤ end) faults → AreWithin (first_fault faults)
-  fault-within [] h = tt
-  fault-within (at ∷ faults) h = (h.0, tt)
+  waiting-found : (ps : List Piece) → list_all (is_early end) ps ≡ true → AreWithin (unbuilt_at (first_waiting ps))
+  waiting-found [] h = tt
+  waiting-found (p ∷ ps) h =
+      found-or p (first_waiting ps) (waits_before p ps) (leb-true p.at end (and-left (is_early end p) (list_all (is_early end) ps) h))
+      (waiting-found ps (and-right (is_early end p) (list_all (is_early end) ps) h))
 
-  prelude-by : (sought : List Refusal) (prelude : List Component) (stop : ℕ) → AreWithin sought → all_within prelude ≡ true → stop ≤ end → AreWithin (prelude_refusals_by sought prelude stop)
-  prelude-by (r ∷ rs) prelude stop s h k = (s.0, tt)
-  prelude-by [] prelude stop s h k =
-      each-append IsWithin (sought_in Ampersand prelude) (first_fault (list_faults prelude stop))
-      (sought-within Ampersand prelude h)
-      (fault-within (list_faults prelude stop) (faults-within end prelude stop h k))
+  unread-within : (r : Result (List Selector) ℕ) → FaultWithin end r → AreWithin (unread r)
+  unread-within (Err at) h = (h, tt)
+  unread-within (Ok list) h = tt
 
   prelude-within : (prelude : List Component) (stop : ℕ) → all_within prelude ≡ true → stop ≤ end → AreWithin (prelude_refusals prelude stop)
-  prelude-within prelude stop h k = prelude-by (sought_in ColonOrBracket prelude) prelude stop (sought-within ColonOrBracket prelude h) h k
+  prelude-within prelude stop h k =
+      each-append IsWithin (waiting_in prelude) (unread (list_reading false prelude stop))
+      (waiting-found (pieces_all prelude) (pieces-early end prelude h))
+      (unread-within (list_reading false prelude stop) (fault-within end prelude stop h k))
 
   leftover-within : (cs : List Component) → all_within cs ≡ true → AreWithin (leftover_refusals cs)
   leftover-within [] h = tt

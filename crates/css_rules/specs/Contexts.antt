@@ -1,21 +1,21 @@
 -- What stands round a declaration (CSS Nesting 1, section 2; CSS Cascading 5, section 6.4).
 use Rattle.std.specs.Prelude.{List, [], ◌∷◌, ◌++◌}
 use Rattle.css_rules.specs.declared.sheet.LayerName.{LayerName}
-use Rattle.css_rules.specs.BareSelectors.{BareSelector}
+use Rattle.selector_tree.specs.declared.selector.Selector.{Selector}
 
 -- a layer: its name behind those of the layers round it, the outermost first; an empty path is no layer
 abbrev pub LayerPath : Type 0
 LayerPath = List LayerName
 
--- the layer, and the selector lists of the enclosing style rules, outermost first
+-- the layer, and the selector lists of the enclosing style rules with their places at 0, outermost first
 pub record Context : Type 0 where
   pub layer : LayerPath
-  pub chain : List (List BareSelector)
+  pub chain : List (List Selector)
 
 -- the top of a sheet
 abbrev pub outside : Context
 outside = record { layer = []; chain = [] }
 
 -- inside one more style rule
-abbrev pub under_list : List BareSelector → Context → Context
+abbrev pub under_list : List Selector → Context → Context
 under_list list c = record { layer = c.layer; chain = c.chain ++ list ∷ [] }

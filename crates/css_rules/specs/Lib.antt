@@ -3,15 +3,8 @@ pub mod Cuts
 pub mod Declarations
 pub mod Refusals
 pub mod ReadAll
-pub mod Selectors
 pub mod Sheets
 pub mod SelectorFaults
-pub mod BareSelectors
-pub mod SelectorTexts
-pub mod ReadableSelectors
-pub mod SelectorAtoms
-pub mod SelectorWords
-pub mod Signs
 pub mod Erased
 pub mod Contexts
 pub mod Runs

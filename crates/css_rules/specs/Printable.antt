@@ -1,33 +1,21 @@
 -- Which runs of declarations print as a text that reads as them again (CSS Syntax 3, section 10).
-use Rattle.std.specs.Prelude.{List, [], ◌∷◌, Bool, true, false, not, ◌≡◌, if◌then◌else◌}
+use Rattle.std.specs.Prelude.{List, [], ◌∷◌, map, Bool, true, false, not, ◌≡◌}
 use Rattle.std.specs.List.{list_all, list_any, AllByRecursion}
 use Rattle.css_tokens.specs.declared.component.Component.{Component}
 use Rattle.css_tokens.specs.Trees.{all_formed, words_all}
 use Rattle.css_tokens.specs.Names.{is_name}
 use Rattle.css_rules.specs.declared.sheet.Declaration.{Declaration}
-use Rattle.css_rules.specs.declared.selector.Simple.{Simple}
-use Rattle.css_rules.specs.declared.selector.Simple.TheVariants.{Class, Id, Parent}
-use Rattle.css_rules.specs.BareSelectors.{BareCompound, BareSelector}
-use Rattle.css_rules.specs.ReadableSelectors.{is_readable_list, is_spelled}
+use Rattle.selector_tree.specs.declared.selector.Selector.{Selector}
+use Rattle.selector_tree.specs.Erased.{erased}
+use Rattle.selector_tree.specs.ReadableSelectors.{is_readable_list, is_spelled, is_writable_list}
+use Rattle.selector_tree.specs.Spelling.{list_spelling}
 use Rattle.css_rules.specs.Components.{is_bang, is_semicolon, is_custom, is_gap}
 use Rattle.css_rules.specs.Declarations.{property_name, may_be_value}
+use Rattle.css_rules.specs.Refusals.{has_waiting}
 use Rattle.css_rules.specs.Sheets.{is_unbuilt}
-use Rattle.css_rules.specs.Runs.{Run}
+use Rattle.css_rules.specs.Runs.{Run, runs_of}
+use Rattle.css_rules.specs.declared.sheet.Sheet.{Sheet}
 use Rattle.css_rules.specs.Contexts.{outside, under_list}
-
--- is it the nesting selector?
-abbrev pub is_parent : Simple → Bool
-is_parent (Class name) = false
-is_parent (Id name) = false
-is_parent Parent = true
-
--- is the nesting selector in the compound?
-abbrev pub has_parent : BareCompound → Bool
-has_parent compound = list_any is_parent compound.simples
-
--- is the nesting selector in any compound of the selector?
-abbrev pub is_nesting : BareSelector → Bool
-is_nesting s = if has_parent s.first then true else list_any (λ link. has_parent link.1) s.rest
 
 -- does neither white space nor a comment stand in front?
 abbrev pub begins_solid : List Component → Bool
@@ -46,11 +34,19 @@ pub record IsPrintableDeclaration (d : Declaration) : Type 0 where
   pub formed : all_formed d.value ≡ true
   pub spelled : list_all is_spelled (words_all d.value) ≡ true
 
--- a run of a rule that is not nested, whose selectors have a spelling, with a declaration at least, and each declaration so
+-- a run of a rule that is not nested, whose selectors have a spelling in which nothing waits for a later stage, with a declaration at least, and each declaration so
 pub record IsPrintable (run : Run) : Type 0 where
-  pub selectors : (list : List BareSelector) × (run.context ≡ under_list list outside) × (is_readable_list list ≡ true) × (list_any is_nesting list ≡ false)
+  pub selectors : (list : List Selector) × (run.context ≡ under_list (map erased list) outside) × (is_readable_list false list ≡ true) × (has_waiting (list_spelling list) ≡ false)
   pub some : (first : Declaration) × (more : List Declaration) × (run.declarations ≡ first ∷ more)
   pub each : AllByRecursion IsPrintableDeclaration run.declarations
+
+-- Is all kept of each selector round the run? Of a foreign function nothing is, and of the flag of an attribute selector only that it is there.
+abbrev pub is_whole : Run → Bool
+is_whole run = list_all is_writable_list run.context.chain
+
+-- the same of each run of a sheet
+abbrev pub all_whole : Sheet → Bool
+all_whole sheet = list_all is_whole (runs_of sheet)
 
 -- each of the runs is so
 abbrev pub ArePrintable : List Run → Type 0

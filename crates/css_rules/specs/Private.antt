@@ -1,4 +1,4 @@
 -- What the clauses of private functions alone cite: how the work is done, step by step. A reader need not believe it.
 pub mod Marks
-pub mod SelectorSteps
+pub mod Waiting
 pub mod Faults

@@ -1,18 +1,19 @@
 -- What a sheet is refused for, and which refusal is named.
-use Rattle.std.specs.Prelude.{ℕ, List, [], ◌∷◌, Bool, true, false, ◌||◌, ◌&&◌, codes, Option, Some, None, if◌then◌else◌, nat_eq, nat_lt, nat_le, find}
+use Rattle.std.specs.Prelude.{ℕ, List, [], ◌∷◌, Bool, true, false, ◌||◌, ◌&&◌, codes, Option, Some, None, is_some, if◌then◌else◌, nat_eq, nat_lt, nat_le, find}
 use Rattle.std.specs.List.{list_any, starts_with}
 use Rattle.css_tokens.specs.declared.kind.Kind.{Kind}
-use Rattle.css_tokens.specs.declared.kind.Kind.TheVariants.{Ident, Function, Url, Colon, Open, Delim}
+use Rattle.css_tokens.specs.declared.kind.Kind.TheVariants.{Ident, Function, Url, Delim}
 use Rattle.css_tokens.specs.declared.component.Component.{Component}
 use Rattle.css_tokens.specs.Piece.{Piece}
 use Rattle.css_tokens.specs.Names.{name_of_word}
 use Rattle.css_tokens.specs.Trees.{pieces_all, is_text}
+use Rattle.selector_tree.specs.Signs.{is_comment_kind}
 use Rattle.css_rules.specs.declared.refusal.Cause.{Cause}
 use Rattle.css_rules.specs.declared.refusal.Cause.TheVariants.{Syntax, Unbuilt}
 use Rattle.css_rules.specs.declared.refusal.Refusal.{Refusal}
 use Rattle.css_rules.specs.declared.refusal.Sought.{Sought}
-use Rattle.css_rules.specs.declared.refusal.Sought.TheVariants.{ColonOrBracket, Ampersand, RevertLayer, RevertLayerOrUrl}
-use Rattle.css_rules.specs.Components.{is_custom, is_keyword}
+use Rattle.css_rules.specs.declared.refusal.Sought.TheVariants.{RevertLayer, RevertLayerOrUrl}
+use Rattle.css_rules.specs.Components.{is_colon_kind, is_custom, is_keyword}
 
 -- it cannot be read, at this place
 abbrev pub syntax : ℕ → Refusal
@@ -46,16 +47,33 @@ abbrev pub first_refusal : List Refusal → Option Refusal
 first_refusal [] = None
 first_refusal (refusal ∷ refusals) = sooner_of (Some refusal) (first_refusal refusals)
 
--- a colon, or `[`: what a pseudo-class or an attribute selector begins with (Selectors 4, sections 3.5 and 6)
-abbrev pub is_colon_or_bracket : Kind → List ℕ → Bool
-is_colon_or_bracket Colon text = true
-is_colon_or_bracket Open text = is_text text (codes "[")
-is_colon_or_bracket _ text = false
-
 -- the nesting selector `&` (CSS Nesting 1, section 3)
 abbrev pub is_ampersand : Kind → List ℕ → Bool
 is_ampersand Delim text = is_text text (codes "&")
 is_ampersand _ text = false
+
+-- a Function named `is`, in any case of letters (Selectors 4, section 4.2)
+abbrev pub is_is : Kind → List ℕ → Bool
+is_is Function text = is_keyword (codes "is") (name_of_word Function text)
+is_is _ text = false
+
+-- Do the tokens begin with a Function named `is`? A comment counts as nothing.
+abbrev pub begins_is : List Piece → Bool
+begins_is [] = false
+begins_is (token ∷ tokens) = if is_comment_kind token.kind then begins_is tokens else is_is token.kind token.text
+
+-- does this token, with these behind it, wait for a later stage: is it `&`, or the colon of `:is(`?
+abbrev pub waits_before : Piece → List Piece → Bool
+waits_before token tokens = is_ampersand token.kind token.text || (is_colon_kind token.kind && begins_is tokens)
+
+-- the first token that waits so
+abbrev pub first_waiting : List Piece → Option Piece
+first_waiting [] = None
+first_waiting (token ∷ tokens) = if waits_before token tokens then Some token else first_waiting tokens
+
+-- Does a token of the components wait so, at any depth?
+abbrev pub has_waiting : List Component → Bool
+has_waiting cs = is_some (first_waiting (pieces_all cs))
 
 -- the keyword `revert-layer`, in any case of letters (CSS Cascading 5, section 7.3.5)
 abbrev pub is_revert_layer : Kind → List ℕ → Bool
@@ -70,8 +88,6 @@ is_url _ text = false
 
 -- is it a token of this construct, which is not built yet?
 abbrev pub is_sought : Sought → Piece → Bool
-is_sought ColonOrBracket token = is_colon_or_bracket token.kind token.text
-is_sought Ampersand token = is_ampersand token.kind token.text
 is_sought RevertLayer token = is_revert_layer token.kind token.text
 is_sought RevertLayerOrUrl token = is_revert_layer token.kind token.text || is_url token.kind token.text
 
@@ -91,6 +107,10 @@ unbuilt_at (Some token) = unbuilt token.at ∷ []
 -- the refusal at the first such token of these components, at any depth, where there is one
 abbrev pub sought_in : Sought → List Component → List Refusal
 sought_in sought cs = unbuilt_at (find (is_sought sought) (pieces_all cs))
+
+-- the refusal at the first token of a prelude that waits for a later stage, at any depth, where there is one
+abbrev pub waiting_in : List Component → List Refusal
+waiting_in cs = unbuilt_at (first_waiting (pieces_all cs))
 
 -- does the text hold the word?
 abbrev pub holds : List ℕ → List ℕ → Bool

@@ -14,7 +14,7 @@ use Rattle.css_rules.specs.declared.sheet.Item.TheVariants.{outs-Style, outs-Pla
 use Rattle.css_rules.specs.declared.sheet.Item.TheOpen.{Item-F, Style, Plain, Style-F}
 use Rattle.css_rules.specs.declared.sheet.Item.TheFolds.{fold-Item, fold_out-Item}
 use Rattle.css_rules.specs.declared.sheet.Sheet.{Sheet}
-use Rattle.css_rules.specs.BareSelectors.{bare_list}
+use Rattle.selector_tree.specs.Erased.{erased}
 
 -- a declaration without its place, and with its value as text
 pub record BareDeclaration : Type 0 where
@@ -51,7 +51,7 @@ item_runs (Plain declarations) c = record { context = c; declarations = declarat
 
 -- the runs of the items of a style rule, inside its own selector list too
 abbrev pub style_runs : Style-F Contribution Contribution → Contribution
-style_runs style c = flat_map (λ (runs : Contribution). runs (under_list (bare_list style.selectors) c)) style.items
+style_runs style c = flat_map (λ (runs : Contribution). runs (under_list (map erased style.selectors) c)) style.items
 
 -- the runs of an item inside these selector lists
 abbrev pub runs_within : Item → Contribution
@@ -73,7 +73,7 @@ pub runs_within-Plain : (ds : List Declaration) (c : Context) → runs_within (i
 runs_within-Plain ds c = ap (λ (f : Contribution). f c) (fold_out-Item Contribution Contribution item_runs style_runs (item.Plain ds) ∙ ap layer_runs (outs-Plain ds))
 
 -- A style rule has the runs of its items, inside its own selector list too.
-pub runs_within-Style : (s : style.Style) (c : Context) → runs_within (item.Style s) c ≡ flat_map (λ inner. runs_within inner (under_list (bare_list s.selectors) c)) s.items
+pub runs_within-Style : (s : style.Style) (c : Context) → runs_within (item.Style s) c ≡ flat_map (λ inner. runs_within inner (under_list (map erased s.selectors) c)) s.items
 runs_within-Style s c =
     ap (λ (f : Contribution). f c) (fold_out-Item Contribution Contribution item_runs style_runs (item.Style s) ∙ ap layer_runs (outs-Style s) ∙ style.fold_out-Style Contribution Contribution item_runs style_runs s)
-    ∙ flat_map-map (λ (runs : Contribution). runs (under_list (bare_list s.selectors) c)) runs_within s.items
+    ∙ flat_map-map (λ (runs : Contribution). runs (under_list (map erased s.selectors) c)) runs_within s.items

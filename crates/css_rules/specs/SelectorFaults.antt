@@ -1,18 +1,20 @@
--- What a refusal of a selector list says (Selectors 4, section 18, Grammar).
-use Rattle.std.specs.Prelude.{ℕ, List, [], ◌∷◌, ◌≡◌, Option, Some, None}
-use Rattle.css_rules.specs.declared.selector.read.SelectorFault.{SelectorFault}
-use Rattle.css_rules.specs.declared.selector.read.SelectorFault.TheVariants.{Syntax, Memory}
+-- Where the selectors of a list cannot be read (Selectors 4, section 18, Grammar).
+use Rattle.std.specs.Prelude.{ℕ, List, ◌∷◌, map, false, Option, Some, None, Result, Ok, Err}
+use Rattle.std.specs.List.{filter_map}
+use Rattle.css_tokens.specs.declared.component.Component.{Component}
+use Rattle.selector_tree.specs.declared.selector.Selector.{Selector}
+use Rattle.selector_tree.specs.Grammar.{Mark, Member, cut_at_commas, member_reading}
+use Rattle.selector_tree.specs.Signs.{mark_of}
 
--- A refusal for want of memory may come at any time. Another one names the fault.
-abbrev pub FaultIs : SelectorFault → Option ℕ → Type 0
-FaultIs (Syntax at) fault = fault ≡ Some at
-FaultIs Memory fault = Unit {0}
+-- the place of the fault, where there is no reading
+abbrev pub fault_in : Result Selector ℕ → Option ℕ
+fault_in (Ok s) = None
+fault_in (Err at) = Some at
 
--- the first of these places, where there is any
-abbrev pub first_of : List ℕ → Option ℕ
-first_of [] = None
-first_of (at ∷ faults) = Some at
+-- what stands between the commas of a list
+abbrev pub members_of : List Mark → List Member
+members_of ms = (cut_at_commas ms).0 ∷ (cut_at_commas ms).1
 
--- A refusal names the first of these.
-abbrev pub IsFirstFault : SelectorFault → List ℕ → Type 0
-IsFirstFault e faults = FaultIs e (first_of faults)
+-- the places at which the selectors of a list cannot be read that ends at this place
+abbrev pub list_faults : List Component → ℕ → List ℕ
+list_faults cs end = filter_map (λ m. fault_in (member_reading false end m)) (members_of (map mark_of cs))

@@ -2,29 +2,19 @@
 use Rattle.std.specs.Prelude.{List, [], ◌∷◌, ◌++◌, flat_map, Bool, codes, if◌then◌else◌}
 use Rattle.css_tokens.specs.declared.kind.Kind.TheVariants as kinds
 use Rattle.css_tokens.specs.declared.component.Component.{Component}
-use Rattle.css_tokens.specs.declared.component.Component as component
-use Rattle.css_tokens.specs.NameText.{name_text}
 use Rattle.css_tokens.specs.ValueAgain.{value_again}
 use Rattle.css_rules.specs.declared.sheet.Declaration.{Declaration}
 use Rattle.css_rules.specs.Runs.{Run}
-use Rattle.css_rules.specs.SelectorWords.{word, single_of, list_again}
+use Rattle.selector_tree.specs.Spelling.{single, block, ident, colon, space, list_spelling}
 use Rattle.css_rules.specs.SheetTexts.{innermost}
-
--- a colon
-abbrev pub colon : Component
-colon = single_of (word kinds.Colon (codes ":"))
 
 -- a semicolon
 abbrev pub semicolon : Component
-semicolon = single_of (word kinds.Semicolon (codes ";"))
-
--- one space
-abbrev pub space : Component
-space = single_of (word kinds.White (codes " "))
+semicolon = single kinds.Semicolon (codes ";")
 
 -- a line feed, which is white space
 abbrev pub line_feed : Component
-line_feed = single_of (word kinds.White (10 ∷ []))
+line_feed = single kinds.White (10 ∷ [])
 
 -- the components of a value, or one space where there are none
 abbrev pub value_or_space : List Component → List Component
@@ -33,11 +23,11 @@ value_or_space (c ∷ cs) = c ∷ cs
 
 -- `!important`, where the declaration is important
 abbrev pub importance_again : Bool → List Component
-importance_again important = if important then single_of (word kinds.Delim (codes "!")) ∷ single_of (word kinds.Ident (codes "important")) ∷ [] else []
+importance_again important = if important then single kinds.Delim (codes "!") ∷ single kinds.Ident (codes "important") ∷ [] else []
 
 -- the components of a declaration: its name, a colon, its value, and the mark of importance
 abbrev pub declaration_again : Declaration → List Component
-declaration_again d = single_of (word kinds.Ident (name_text d.name)) ∷ colon ∷ value_or_space (value_again d.value) ++ importance_again d.important
+declaration_again d = ident d.name ∷ colon ∷ value_or_space (value_again d.value) ++ importance_again d.important
 
 -- the components of further declarations, each behind a semicolon
 abbrev pub more_again : List Declaration → List Component
@@ -50,11 +40,11 @@ declarations_again (d ∷ ds) = declaration_again d ++ more_again ds
 
 -- the `{}` block in which these declarations stand
 abbrev pub block_again : List Declaration → Component
-block_again ds = component.Block (record { opening = record { kind = kinds.Open; text = codes "{"; at = 0 }; items = declarations_again ds; close = 0 })
+block_again ds = block kinds.Open (codes "{") (declarations_again ds)
 
 -- the style rule of a run: its innermost selector list, its block, and a line feed
 abbrev pub run_again : Run → List Component
-run_again run = list_again (innermost run.context.chain) ++ block_again run.declarations ∷ line_feed ∷ []
+run_again run = list_spelling (innermost run.context.chain) ++ block_again run.declarations ∷ line_feed ∷ []
 
 -- the style rules of all runs, one after another
 abbrev pub sheet_again : List Run → List Component

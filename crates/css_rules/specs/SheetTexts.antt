@@ -12,9 +12,9 @@ use Rattle.css_rules.specs.declared.sheet.Item.TheVariants.{outs-Style, outs-Pla
 use Rattle.css_rules.specs.declared.sheet.Item.TheOpen.{Item-F, Style, Plain, Style-F}
 use Rattle.css_rules.specs.declared.sheet.Item.TheFolds.{fold-Item, fold_out-Item}
 use Rattle.css_rules.specs.declared.sheet.Sheet.{Sheet}
-use Rattle.css_rules.specs.BareSelectors.{BareSelector, bare_list}
+use Rattle.selector_tree.specs.declared.selector.Selector.{Selector}
+use Rattle.selector_tree.specs.Spelling.{list_text}
 use Rattle.css_rules.specs.Runs.{Run}
-use Rattle.css_rules.specs.SelectorTexts.{list_text}
 
 -- the text of a value; an empty one prints as one space
 abbrev pub printed_value : List Component → List ℕ
@@ -54,11 +54,11 @@ block_text (item ∷ []) = item.alone
 block_text (first ∷ second ∷ items) = flat_map (λ (item : ItemText). item.among) (first ∷ second ∷ items)
 
 -- a selector list, what is in its block, and a line feed
-abbrev pub braced_text : List BareSelector → List ℕ → List ℕ
+abbrev pub braced_text : List Selector → List ℕ → List ℕ
 braced_text list inside = list_text list ++ (codes "{" ++ (inside ++ (codes "}" ++ 10 ∷ [])))
 
 -- the text of a style rule, which is not printed where nothing in its block is
-abbrev pub rule_text : List BareSelector → List ℕ → List ℕ
+abbrev pub rule_text : List Selector → List ℕ → List ℕ
 rule_text list [] = []
 rule_text list (c ∷ cs) = braced_text list (c ∷ cs)
 
@@ -69,7 +69,7 @@ item_text (Plain declarations) = record { alone = declarations_text declarations
 
 -- the text of a style rule whose items print so
 abbrev pub style_text : Style-F ItemText (List ℕ) → List ℕ
-style_text style = rule_text (bare_list style.selectors) (block_text style.items)
+style_text style = rule_text style.selectors (block_text style.items)
 
 -- the text of an item, alone and among others
 abbrev pub printed_item : Item → ItemText
@@ -87,7 +87,7 @@ pub printed_item-Plain : (ds : List Declaration) → printed_item (item.Plain ds
 printed_item-Plain ds = fold_out-Item ItemText (List ℕ) item_text style_text (item.Plain ds) ∙ ap layer_text (outs-Plain ds)
 
 -- A style rule has the texts of its items in its block.
-pub printed_item-Style : (s : style.Style) → printed_item (item.Style s) ≡ item_text (Style (rule_text (bare_list s.selectors) (block_text (map printed_item s.items))))
+pub printed_item-Style : (s : style.Style) → printed_item (item.Style s) ≡ item_text (Style (rule_text s.selectors (block_text (map printed_item s.items))))
 printed_item-Style s =
     fold_out-Item ItemText (List ℕ) item_text style_text (item.Style s) ∙ ap layer_text (outs-Style s)
     ∙ ap (λ text. item_text (Style text)) (style.fold_out-Style ItemText (List ℕ) item_text style_text s)
@@ -95,7 +95,7 @@ printed_item-Style s =
 -- A sheet of rules that are not nested, as its runs print.
 
 -- the selector list of the innermost rule
-abbrev pub innermost : List (List BareSelector) → List BareSelector
+abbrev pub innermost : List (List Selector) → List Selector
 innermost [] = []
 innermost (list ∷ []) = list
 innermost (list ∷ more ∷ chain) = innermost (more ∷ chain)

@@ -1,11 +1,11 @@
 -- Sheets of plain style rules (CSS Syntax 3, sections 5.4 and 9), and the places of what they are refused for.
-use Rattle.std.specs.Prelude.{ℕ, List, [], ◌∷◌, ◌++◌, ◌≡◌, IsTrue, Bool, false, ◌&&◌, ◌||◌, not, Option, Some, None, if◌then◌else◌, flat_map}
+use Rattle.std.specs.Prelude.{ℕ, List, [], ◌∷◌, ◌++◌, ◌≡◌, IsTrue, Bool, false, ◌&&◌, ◌||◌, not, Option, Some, None, Result, Ok, Err, if◌then◌else◌, flat_map, map}
 use Rattle.std.specs.List.{AllByRecursion, Contains}
 use Rattle.std.specs.Option.{option_map}
 use Rattle.css_tokens.specs.declared.component.Component.{Component}
 use Rattle.css_rules.specs.declared.refusal.Refusal.{Refusal}
-use Rattle.css_rules.specs.declared.refusal.Sought.TheVariants.{ColonOrBracket, Ampersand}
-use Rattle.css_rules.specs.declared.selector.Selector.{Selector}
+use Rattle.selector_tree.specs.declared.selector.Selector.{Selector}
+use Rattle.selector_tree.specs.Signs.{list_in, list_reading, mark_of}
 use Rattle.css_rules.specs.declared.sheet.Declaration.{Declaration}
 use Rattle.css_rules.specs.declared.sheet.Item.{Item, Style, Plain}
 use Rattle.css_rules.specs.declared.sheet.Sheet.{Sheet}
@@ -15,8 +15,7 @@ use Rattle.css_rules.specs.Components.{place_of, inside, is_at_keyword, is_semic
 use Rattle.css_rules.specs.Cuts.{Cut, cuts, trimmed, trimmed_start}
 use Rattle.css_rules.specs.Declarations.{declaration_of, begins_custom}
 use Rattle.css_rules.specs.ReadAll.{read_all}
-use Rattle.css_rules.specs.Refusals.{syntax, unbuilt, leads, has_sought, sought_for, sought_in, is_unbuilt_property}
-use Rattle.css_rules.specs.Selectors.{list_of, list_faults}
+use Rattle.css_rules.specs.Refusals.{syntax, unbuilt, leads, has_sought, has_waiting, sought_for, sought_in, waiting_in, is_unbuilt_property}
 
 -- Where rules and items end.
 
@@ -73,9 +72,9 @@ run_of (d ∷ ds) = Plain (d ∷ ds) ∷ []
 
 -- Rules.
 
--- A prelude is a selector list. With a colon, a `[` or an `&` in it, at any depth, it has no reading yet.
+-- A prelude is a selector list, in which no selector begins with a combinator. With an `&` or `:is(` in it, at any depth, it has no reading yet.
 abbrev pub prelude_of : List Component → Option (List Selector)
-prelude_of prelude = if has_sought ColonOrBracket prelude || has_sought Ampersand prelude then None else list_of prelude
+prelude_of prelude = if has_waiting prelude then None else list_in (map mark_of prelude)
 
 -- the style rule at this place of these selectors and these declarations, where there are both
 abbrev pub style_with : ℕ → Option (List Selector) → Option (List Declaration) → Option (List Item)
@@ -135,19 +134,14 @@ item_refusals cut = if is_rule cut then unbuilt (first_place (trimmed cut.front)
 abbrev pub block_refusals : List Component → List Refusal
 block_refusals block = flat_map item_refusals (cuts ends_item block)
 
--- the refusal at the first of these places, where there is any
-abbrev pub first_fault : List ℕ → List Refusal
-first_fault [] = []
-first_fault (at ∷ faults) = syntax at ∷ []
+-- the refusal at the place where a selector list cannot be read
+abbrev pub unread : Result (List Selector) ℕ → List Refusal
+unread (Ok list) = []
+unread (Err at) = syntax at ∷ []
 
--- A prelude with a colon or a `[` waits for a later stage at the first of these, and nothing else is said of it.
-abbrev pub prelude_refusals_by : List Refusal → List Component → ℕ → List Refusal
-prelude_refusals_by (refusal ∷ _) prelude end = refusal ∷ []
-prelude_refusals_by [] prelude end = sought_in Ampersand prelude ++ first_fault (list_faults prelude end)
-
--- what a prelude is refused for: the first colon or `[` in it, at any depth, and else its first `&` and its first selector that cannot be read
+-- what a prelude is refused for: the first `&` or `:is(` in it, at any depth, and its first selector that cannot be read
 abbrev pub prelude_refusals : List Component → ℕ → List Refusal
-prelude_refusals prelude end = prelude_refusals_by (sought_in ColonOrBracket prelude) prelude end
+prelude_refusals prelude end = waiting_in prelude ++ unread (list_reading false prelude end)
 
 -- what stands behind the last `{}` block is refused for: it is no rule, unless it is white space and comments alone
 abbrev pub leftover_refusals : List Component → List Refusal

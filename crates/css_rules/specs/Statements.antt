@@ -7,7 +7,7 @@ use Rattle.css_rules.specs.declared.sheet.Item.{Item}
 use Rattle.css_rules.specs.declared.sheet.Item as item
 use Rattle.css_rules.specs.declared.sheet.Style as style
 use Rattle.css_rules.specs.declared.sheet.Sheet.{Sheet}
-use Rattle.css_rules.specs.BareSelectors.{bare_list}
+use Rattle.selector_tree.specs.Erased.{erased}
 use Rattle.css_rules.specs.Contexts.{LayerPath, Context, outside, under_list}
 use Rattle.css_rules.specs.ItemFold.{Steps, folded, folded-Plain, folded-Style}
 use Rattle.css_rules.specs.Runs.{BareDeclaration, bare_declaration}
@@ -32,7 +32,7 @@ Saying = Context → List Statement
 abbrev pub saying : Steps Saying
 saying = record {
   plain = λ ds c. map (λ d. Declares c (bare_declaration d)) ds;
-  style = λ selectors at inner c. flat_map (λ (says : Saying). says (under_list (bare_list selectors) c)) inner;
+  style = λ selectors at inner c. flat_map (λ (says : Saying). says (under_list (map erased selectors) c)) inner;
 }
 
 -- what an item says inside what is round it
@@ -52,5 +52,5 @@ pub says-Plain : (ds : List Declaration) (c : Context) → says (item.Plain ds) 
 says-Plain ds c = ap (λ (f : Saying). f c) (folded-Plain saying ds)
 
 -- A style rule says what its items say inside its selector list.
-pub says-Style : (s : style.Style) (c : Context) → says (item.Style s) c ≡ say_all s.items (under_list (bare_list s.selectors) c)
-says-Style s c = ap (λ (f : Saying). f c) (folded-Style saying s) ∙ flat_map-map (λ (f : Saying). f (under_list (bare_list s.selectors) c)) says s.items
+pub says-Style : (s : style.Style) (c : Context) → says (item.Style s) c ≡ say_all s.items (under_list (map erased s.selectors) c)
+says-Style s c = ap (λ (f : Saying). f c) (folded-Style saying s) ∙ flat_map-map (λ (f : Saying). f (under_list (map erased s.selectors) c)) says s.items

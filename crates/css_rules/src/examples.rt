@@ -3,13 +3,10 @@
 ghost use Rattle.std.specs.Prelude.{◌≡◌, [], ◌∷◌, true, false, Some, None, codes};
 ghost use Rattle.css_rules.specs.Declarations.{may_be_value, property_name};
 ghost use Rattle.css_rules.specs.Components.{is_custom, is_keyword};
-ghost use Rattle.css_rules.specs.Refusals.{first_refusal, syntax, unbuilt, is_colon_or_bracket, is_revert_layer, is_unbuilt_property, is_url};
-ghost use Rattle.css_rules.specs.SelectorTexts.{combinator_text};
-ghost use Rattle.css_rules.specs.Signs.{starts_ident};
-ghost use Rattle.css_rules.specs.declared.selector.Combinator.TheVariants.{Descendant, Child, Next, Later};
-ghost use Rattle.css_tokens.specs.declared.kind.Kind.TheVariants.{Colon, Function, Ident, Open, Url};
+ghost use Rattle.css_rules.specs.Refusals.{first_refusal, syntax, unbuilt, is_ampersand, is_is, is_revert_layer, is_unbuilt_property, is_url};
+ghost use Rattle.css_tokens.specs.declared.kind.Kind.TheVariants.{Delim, Function, Ident, Url};
 
-pub mod selectors;
+pub mod cuts;
 pub mod sheets;
 
 /// Which of several refusals is named: the one at the least place, and of two at one place what is not built yet.
@@ -41,9 +38,12 @@ pub fn properties_wait()
 
 /// The tokens of constructs that are not built yet.
 pub fn tokens_wait()
-    ensures colon { is_colon_or_bracket Colon (codes ":") ≡ true }
-    ensures bracket { is_colon_or_bracket Open (codes "[") ≡ true }
-    ensures parenthesis { is_colon_or_bracket Open (codes "(") ≡ false }
+    ensures nesting { is_ampersand Delim (codes "&") ≡ true }
+    ensures no_nesting { is_ampersand Delim (codes "*") ≡ false }
+    ensures is_in_any_case { is_is Function (codes "Is(") ≡ true }
+    ensures escaped_is { is_is Function (codes "i\\73(") ≡ true }
+    ensures other_selectors { is_is Function (codes "not(") ≡ false }
+    ensures is_alone { is_is Ident (codes "is") ≡ false }
     ensures revert_layer { is_revert_layer Ident (codes "Revert-Layer") ≡ true }
     ensures revert { is_revert_layer Ident (codes "revert") ≡ false }
     ensures url { is_url Url (codes "url(a)") ≡ true }
@@ -64,25 +64,4 @@ pub fn names_of_properties()
     ensures other_keyword { is_keyword (codes "important") (codes "importan") ≡ false }
     ensures empty_custom_value { may_be_value true [] ≡ true }
     ensures empty_value { may_be_value false [] ≡ false }
-{}
-
-/// Which texts behind a `#` start an Ident (CSS Syntax 3, section 4.3.9).
-pub fn names_of_ids()
-    ensures letter { starts_ident (codes "a") ≡ true }
-    ensures escape { starts_ident (codes "\\31 ") ≡ true }
-    ensures two_dashes { starts_ident (codes "--") ≡ true }
-    ensures dash_and_letter { starts_ident (codes "-a") ≡ true }
-    ensures dash_and_digit { starts_ident (codes "-1") ≡ false }
-    ensures dash { starts_ident (codes "-") ≡ false }
-    ensures digit { starts_ident (codes "1a") ≡ false }
-    ensures nothing { starts_ident [] ≡ false }
-{}
-
-/// How combinators are written: a `>` behind a name that ends in `--` has a space before it, since `-->` is a token.
-pub fn combinators_are_written()
-    ensures descendant { combinator_text false Descendant ≡ codes " " }
-    ensures child { combinator_text false Child ≡ codes ">" }
-    ensures child_behind_dashes { combinator_text true Child ≡ codes " >" }
-    ensures next { combinator_text true Next ≡ codes "+" }
-    ensures later { combinator_text true Later ≡ codes "~" }
 {}

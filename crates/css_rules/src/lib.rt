@@ -10,12 +10,12 @@ mod places_law;
 mod reader;
 mod reading_law;
 mod refusal;
-pub mod selector;
 mod sheet;
 mod sheet_laws;
 mod standing_law;
 #[cfg(test)]
 mod testing;
+mod waiting;
 mod within_law;
 
 pub use first_law::{the_first_fault_is_named, the_first_refusal_is_named};

@@ -14,6 +14,7 @@ pub fn places_do_not_matter()
     ensures { (a b : List Component) → words_all a ≡ words_all b → IsTrue (all_formed a) → IsTrue (all_formed b) → option_map bare_runs (sheet_of a) ≡ option_map bare_runs (sheet_of b) }
 {
     css_tokens::one_pairing();
+    selector_tree::places_are_not_read();
 }
 
 /// A sheet says what its runs say.

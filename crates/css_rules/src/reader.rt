@@ -12,9 +12,10 @@ use crate::declaration::{is_custom, read_declaration};
 use crate::first_law::the_first_refusal_is_named;
 use crate::parts::{begins_at_rule, is_braces, place_of};
 use crate::refusal::{Cause, Refusal, Sought, sooner_of, sought_in};
-use crate::selector::{Selector, SelectorFault, read_list};
 use crate::sheet::{Declaration, Item, Sheet, Style};
+use crate::waiting::waiting_in;
 use css_tokens::{Component, Kind, List, OutOfMemory};
+use selector_tree::{Selector, SelectorFault, read_list};
 use std::alloc::Global;
 
 /// Why a sheet is not read, with the place in bytes of the source.
@@ -227,22 +228,15 @@ fn read_prelude<'a>(
     ensures refusal { IfOk result (λ read. read.refusal ≡ first_refusal (prelude_refusals prelude.now end)) }
     ensures value { IfOk result (λ read. read.refusal ≡ None → prelude_of prelude.now ≡ Some read.value) }
 {
-    let unread = sought_in(alloc, prelude, Sought::ColonOrBracket)?;
-    if let Some(refusal) = unread {
-        return Ok(Judged {
-            value: List::new(alloc),
-            refusal: Some(refusal),
-        });
-    }
-    let nested = sought_in(alloc, prelude, Sought::Ampersand)?;
-    match read_list(alloc, prelude, end) {
+    let waiting = waiting_in(alloc, prelude)?;
+    match read_list(alloc, prelude, end, false) {
         Ok(value) => Ok(Judged {
             value,
-            refusal: nested,
+            refusal: waiting,
         }),
         Err(SelectorFault::Syntax(at)) => Ok(Judged {
             value: List::new(alloc),
-            refusal: sooner_of(nested, Some(Refusal::syntax(at))),
+            refusal: sooner_of(waiting, Some(Refusal::syntax(at))),
         }),
         Err(SelectorFault::Memory) => Err(OutOfMemory),
     }

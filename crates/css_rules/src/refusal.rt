@@ -1,7 +1,7 @@
 ghost use Rattle.std.specs.Prelude.{◌≡◌, ◌∷◌, [], IfOk, find};
 ghost use Rattle.css_tokens.specs.declared.component.Component.{Block as the_block};
 ghost use Rattle.css_tokens.specs.Trees.{pieces_of, pieces_all};
-ghost use Rattle.css_rules.specs.Refusals.{sooner_of, is_sought, sought_in, first_refusal, leads, rank, sooner, syntax, unbuilt, is_colon_or_bracket, is_ampersand, is_revert_layer, is_url};
+ghost use Rattle.css_rules.specs.Refusals.{sooner_of, is_sought, sought_in, first_refusal, leads, rank, sooner, syntax, unbuilt, is_revert_layer, is_url};
 ghost use Rattle.std.specs.Option.{option_map};
 
 use crate::parts::is_keyword;
@@ -28,10 +28,6 @@ pub struct Refusal {
 /// The tokens of constructs that are not built yet.
 #[derive(Clone, Copy, Debug)]
 pub enum Sought {
-    /// A colon or a `[`, in a prelude.
-    ColonOrBracket,
-    /// `&`, in a prelude.
-    Ampersand,
     /// The keyword `revert-layer`, in a value.
     RevertLayer,
     /// This keyword, a Url token or a Function named `url`, in a value.
@@ -97,16 +93,6 @@ pub fn sooner_of(first: Option<Refusal>, second: Option<Refusal>) -> Option<Refu
     }
 }
 
-fn is_colon_or_bracket(token: &Token) -> bool
-    ensures { result ≡ is_colon_or_bracket token.now.kind token.now.text }
-{
-    match token.kind {
-        Kind::Colon => true,
-        Kind::Open => token.text == "[",
-        _ => false,
-    }
-}
-
 fn is_revert_layer(alloc: Global, token: &Token) -> Result<bool, OutOfMemory>
     ensures { IfOk result (λ is. is ≡ is_revert_layer token.now.kind token.now.text) }
 {
@@ -126,15 +112,6 @@ fn is_url(alloc: Global, token: &Token) -> Result<bool, OutOfMemory>
     }
 }
 
-fn is_ampersand(token: &Token) -> bool
-    ensures { result ≡ is_ampersand token.now.kind token.now.text }
-{
-    match token.kind {
-        Kind::Delim => token.text == "&",
-        _ => false,
-    }
-}
-
 impl Sought {
     /// The place of the token where it is one of these.
     fn at(self, alloc: Global, token: &Token) -> Result<Option<u32>, OutOfMemory>
@@ -151,8 +128,6 @@ impl Sought {
         ensures { IfOk result (λ is. is ≡ is_sought self token.now) }
     {
         match self {
-            Sought::ColonOrBracket => Ok(is_colon_or_bracket(token)),
-            Sought::Ampersand => Ok(is_ampersand(token)),
             Sought::RevertLayer => is_revert_layer(alloc, token),
             Sought::RevertLayerOrUrl => Ok(is_revert_layer(alloc, token)? || is_url(alloc, token)?),
         }

@@ -1,5 +1,5 @@
-use crate::selector::Selector;
 use css_tokens::{Component, List, Text};
+use selector_tree::Selector;
 
 /// A declaration (CSS Syntax 3, section 5).
 #[derive(Debug, Drop)]

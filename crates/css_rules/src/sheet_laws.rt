@@ -2,8 +2,8 @@ ghost use Rattle.css_rules.specs.SheetAgain.{sheet_again};
 ghost use Rattle.css_rules.specs.SheetTexts.{runs_text, sheet_text};
 ghost use Rattle.css_rules.specs.Standing.{AllStand};
 ghost use Rattle.css_tokens.specs.Tokens.{Reads};
-ghost use Rattle.css_rules.specs.Printable.{ArePrintable};
-ghost use Rattle.css_rules.specs.ReadableSelectors.{is_spelled};
+ghost use Rattle.css_rules.specs.Printable.{ArePrintable, all_whole};
+ghost use Rattle.selector_tree.specs.ReadableSelectors.{is_spelled};
 ghost use Rattle.css_rules.specs.Runs.{Run, bare_run, bare_runs, runs_of};
 ghost use Rattle.css_rules.specs.Sheets.{sheet_of};
 ghost use Rattle.css_rules.specs.declared.sheet.Sheet.{Sheet};
@@ -13,14 +13,17 @@ ghost use Rattle.std.specs.List.{list_all};
 ghost use Rattle.std.specs.Option.{option_map};
 ghost use Rattle.std.specs.Prelude.{◌≡◌, List, Some, IsTrue, map};
 
-/// The sheet that components spell is printable, where they are well formed and their tokens are in UTF-8, without control
-/// characters, and hold names where they are Idents or ids: each run is of one
-/// style rule, with selectors that have a spelling and no `&`, and each of its declarations, of which there is at least one,
-/// is written as it was read. No rule of it is nested, so that it prints as its runs do.
+/// The sheet that components spell is printable, where they are well formed, their tokens are in UTF-8, without control
+/// characters, and hold names or contents where they are Idents, ids or Strings, and of each selector round a declaration all
+/// is kept (`all_whole`): each run is of one style rule, with selectors that have a spelling and in it no `&` and no `:is(`, and
+/// each of its declarations, of which there is at least one, is written as it was read. No rule of a sheet is nested, so that
+/// it prints as its runs do.
 pub fn sheets_are_printable()
     ensures flat { (cs : List Component) (sheet : Sheet) → sheet_of cs ≡ Some sheet → sheet_text sheet ≡ runs_text (runs_of sheet) }
-    ensures printable { (cs : List Component) (sheet : Sheet) → sheet_of cs ≡ Some sheet → IsTrue (all_formed cs) → IsTrue (list_all is_spelled (words_all cs)) → ArePrintable (runs_of sheet) }
-{}
+    ensures printable { (cs : List Component) (sheet : Sheet) → sheet_of cs ≡ Some sheet → IsTrue (all_formed cs) → IsTrue (list_all is_spelled (words_all cs)) → IsTrue (all_whole sheet) → ArePrintable (runs_of sheet) }
+{
+    selector_tree::selectors_are_read_again();
+}
 
 /// The text that printable runs print as reads as components that say the same: its tokens are their words, their brackets
 /// are paired, and they spell a sheet with these runs, places aside.
@@ -35,7 +38,9 @@ pub fn sheets_are_read_again()
     css_tokens::words_again();
     css_tokens::names_spell();
     css_tokens::names_stay();
+    css_tokens::strings_spell();
     css_tokens::values_again();
-    crate::selector::selectors_are_read_again();
-    crate::selector::selector_text_reads();
+    selector_tree::selectors_are_read_again();
+    selector_tree::selectors_stand_in_a_prelude();
+    selector_tree::selector_text_reads();
 }

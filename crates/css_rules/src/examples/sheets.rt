@@ -2,15 +2,17 @@
 //! how it prints.
 #![tactic(auto, using(crate::proofs::Computing::computing))]
 
-ghost use Rattle.std.specs.Prelude.{◌≡◌, List, [], ◌∷◌, Some, None, codes};
+ghost use Rattle.std.specs.Prelude.{◌≡◌, List, [], ◌∷◌, true, false, Some, None, codes};
 ghost use Rattle.std.specs.Option.{option_map};
 ghost use Rattle.css_rules.specs.declared.sheet.Item.{Style, Plain};
 ghost use Rattle.css_rules.specs.Declarations.{declaration_of};
 ghost use Rattle.css_rules.specs.Refusals.{first_refusal, syntax, unbuilt};
+ghost use Rattle.css_rules.specs.Printable.{all_whole};
 ghost use Rattle.css_rules.specs.Runs.{bare_runs};
 ghost use Rattle.css_rules.specs.Sheets.{sheet_of, sheet_refusals};
 ghost use Rattle.css_rules.specs.SheetTexts.{sheet_text};
-ghost use Rattle.css_rules.specs.Samples.{source, laid, ident, number, at_keyword, url, string, delim, dot, space, comment, comma, colon, semicolon, braces, brackets, call, class, untyped, typed, one, type_at, unmarked, marked, bare, run};
+ghost use Rattle.css_rules.specs.Samples.{number, at_keyword, url, string, dot, semicolon, braces, type_at, unmarked, marked, bare, run};
+ghost use Rattle.selector_tree.specs.Samples.{source, laid, ident, delim, space, comment, comma, colon, brackets, call, class, typed, one, only};
 
 /// What a declaration says: its name in lower case, but for a custom property, and its value without white space at both ends.
 pub fn declarations_are_spelled()
@@ -57,7 +59,8 @@ pub fn no_sheets()
     ensures name_alone { sheet_of (source (ident "p" ∷ braces (ident "a" ∷ []) ∷ [])) ≡ None }
     ensures no_selector { sheet_of (source (ident "p" ∷ braces [] ∷ braces [] ∷ [])) ≡ None }
     ensures at_rule { sheet_of (source (at_keyword "@a" ∷ semicolon ∷ ident "p" ∷ braces [] ∷ [])) ≡ None }
-    ensures pseudo_class { sheet_of (source (ident "a" ∷ colon ∷ ident "b" ∷ braces [] ∷ [])) ≡ None }
+    ensures is { sheet_of (source (ident "a" ∷ colon ∷ call "is(" (ident "b" ∷ []) ∷ braces [] ∷ [])) ≡ None }
+    ensures combinator_first { sheet_of (source (delim ">" ∷ ident "a" ∷ braces [] ∷ [])) ≡ None }
     ensures nesting { sheet_of (source (delim "&" ∷ braces [] ∷ [])) ≡ None }
     ensures nested_rule { sheet_of (source (ident "p" ∷ braces (ident "a" ∷ braces [] ∷ []) ∷ [])) ≡ None }
     ensures nested_at_rule { sheet_of (source (ident "p" ∷ braces (at_keyword "@a" ∷ []) ∷ [])) ≡ None }
@@ -67,7 +70,7 @@ pub fn no_sheets()
 
 /// What the cascade knows of a sheet: the declarations of each rule in order.
 pub fn runs_of_sheets()
-    ensures rule { option_map bare_runs (sheet_of (source (dot ∷ ident "a" ∷ braces (ident "color" ∷ colon ∷ ident "red" ∷ []) ∷ []))) ≡ Some (run (one (untyped (class "a" ∷ [])) ∷ []) (bare "color" "red" ∷ []) ∷ []) }
+    ensures rule { option_map bare_runs (sheet_of (source (dot ∷ ident "a" ∷ braces (ident "color" ∷ colon ∷ ident "red" ∷ []) ∷ []))) ≡ Some (run (only (class "a") ∷ []) (bare "color" "red" ∷ []) ∷ []) }
     ensures no_declaration { option_map bare_runs (sheet_of (source (ident "p" ∷ braces (semicolon ∷ comment ∷ []) ∷ []))) ≡ Some ([]) }
     ensures two_declarations { option_map bare_runs (sheet_of (source (ident "a" ∷ braces (ident "b" ∷ colon ∷ ident "c" ∷ semicolon ∷ ident "d" ∷ colon ∷ ident "e" ∷ []) ∷ []))) ≡ Some (run (one (typed "a" []) ∷ []) (bare "b" "c" ∷ bare "d" "e" ∷ []) ∷ []) }
     ensures two_rules { option_map bare_runs (sheet_of (source (ident "a" ∷ braces (ident "b" ∷ colon ∷ ident "c" ∷ []) ∷ ident "d" ∷ braces (ident "e" ∷ colon ∷ ident "f" ∷ []) ∷ []))) ≡ Some (run (one (typed "a" []) ∷ []) (bare "b" "c" ∷ []) ∷ run (one (typed "d" []) ∷ []) (bare "e" "f" ∷ []) ∷ []) }
@@ -80,9 +83,18 @@ pub fn sheets_print()
     ensures no_declaration { option_map sheet_text (sheet_of (source (ident "p" ∷ braces (semicolon ∷ comment ∷ []) ∷ []))) ≡ Some ([]) }
     ensures two_declarations { option_map sheet_text (sheet_of (source (ident "a" ∷ braces (ident "b" ∷ colon ∷ ident "c" ∷ semicolon ∷ ident "d" ∷ colon ∷ ident "e" ∷ []) ∷ []))) ≡ Some (codes "a{b:c;d:e}\n") }
     ensures two_rules { option_map sheet_text (sheet_of (source (ident "a" ∷ braces (ident "b" ∷ colon ∷ ident "c" ∷ []) ∷ ident "d" ∷ braces (ident "e" ∷ colon ∷ ident "f" ∷ []) ∷ []))) ≡ Some (codes "a{b:c}\nd{e:f}\n") }
+    ensures selectors { option_map sheet_text (sheet_of (source (ident "a" ∷ colon ∷ ident "HOVER" ∷ comma ∷ brackets (ident "x" ∷ delim "=" ∷ ident "y" ∷ []) ∷ colon ∷ ident "before" ∷ braces (ident "b" ∷ colon ∷ ident "c" ∷ []) ∷ []))) ≡ Some (codes "a:hover,[x=\"y\"]::before{b:c}\n") }
     ensures white_space { option_map sheet_text (sheet_of (source (ident "a" ∷ space ∷ braces (space ∷ ident "b" ∷ space ∷ colon ∷ space ∷ ident "c" ∷ space ∷ []) ∷ []))) ≡ Some (codes "a{b:c}\n") }
     ensures empty_custom { option_map sheet_text (sheet_of (source (ident "a" ∷ braces (ident "--x" ∷ colon ∷ []) ∷ []))) ≡ Some (codes "a{--x: }\n") }
     ensures important { option_map sheet_text (sheet_of (source (ident "a" ∷ braces (ident "b" ∷ colon ∷ ident "c" ∷ space ∷ delim "!" ∷ ident "Important" ∷ []) ∷ []))) ≡ Some (codes "a{b:c!important}\n") }
+{}
+
+/// Of which sheets all is kept: not where a declaration stands under a foreign function or an attribute selector with a flag.
+pub fn sheets_are_whole()
+    ensures no_flag { option_map all_whole (sheet_of (source (brackets (ident "x" ∷ delim "=" ∷ ident "y" ∷ []) ∷ braces (ident "b" ∷ colon ∷ ident "c" ∷ []) ∷ []))) ≡ Some true }
+    ensures foreign { option_map all_whole (sheet_of (source (colon ∷ call "has(" (ident "a" ∷ []) ∷ braces (ident "b" ∷ colon ∷ ident "c" ∷ []) ∷ []))) ≡ Some false }
+    ensures flag { option_map all_whole (sheet_of (source (brackets (ident "x" ∷ delim "=" ∷ ident "y" ∷ space ∷ ident "i" ∷ []) ∷ braces (ident "b" ∷ colon ∷ ident "c" ∷ []) ∷ []))) ≡ Some false }
+    ensures no_declaration { option_map all_whole (sheet_of (source (colon ∷ call "has(" (ident "a" ∷ []) ∷ braces [] ∷ []))) ≡ Some true }
 {}
 
 /// What a sheet is refused for outside its rules, and that a rule of what is built is not refused.
@@ -97,10 +109,18 @@ pub fn rules_are_refused()
 
 /// What a sheet is refused for in front of the block of a rule.
 pub fn preludes_are_refused()
-    ensures pseudo_class { sheet_refusals (source (ident "a" ∷ colon ∷ ident "hover" ∷ braces (ident "color" ∷ colon ∷ ident "red" ∷ []) ∷ [])) ≡ unbuilt 1 ∷ [] }
-    ensures attribute { sheet_refusals (source (brackets (ident "x" ∷ []) ∷ braces [] ∷ [])) ≡ unbuilt 0 ∷ [] }
-    ensures colon_at_any_depth { sheet_refusals (source (call "a(" (ident "b" ∷ colon ∷ ident "c" ∷ []) ∷ braces [] ∷ [])) ≡ unbuilt 3 ∷ [] }
-    ensures colon_alone_is_named { sheet_refusals (source (ident "a" ∷ colon ∷ ident "b" ∷ comma ∷ comma ∷ delim "&" ∷ braces [] ∷ [])) ≡ unbuilt 1 ∷ [] }
+    ensures pseudo_class { sheet_refusals (source (ident "a" ∷ colon ∷ ident "hover" ∷ braces (ident "color" ∷ colon ∷ ident "red" ∷ []) ∷ [])) ≡ [] }
+    ensures attribute { sheet_refusals (source (brackets (ident "x" ∷ []) ∷ braces [] ∷ [])) ≡ [] }
+    ensures function_alone { sheet_refusals (source (call "a(" (ident "b" ∷ colon ∷ ident "c" ∷ []) ∷ braces [] ∷ [])) ≡ syntax 0 ∷ [] }
+    ensures other_function { sheet_refusals (source (colon ∷ call "has(" (ident "a" ∷ []) ∷ braces [] ∷ [])) ≡ [] }
+    ensures combinator_first { sheet_refusals (source (delim ">" ∷ ident "a" ∷ braces [] ∷ [])) ≡ syntax 0 ∷ [] }
+    ensures is { sheet_refusals (source (ident "a" ∷ colon ∷ call "IS(" (ident "b" ∷ []) ∷ braces [] ∷ [])) ≡ unbuilt 1 ∷ [] }
+    ensures is_behind_a_comment { sheet_refusals (source (ident "a" ∷ colon ∷ comment ∷ call "is(" (ident "b" ∷ []) ∷ braces [] ∷ [])) ≡ unbuilt 1 ∷ [] }
+    ensures is_behind_a_space { sheet_refusals (source (ident "a" ∷ colon ∷ space ∷ call "is(" (ident "b" ∷ []) ∷ braces [] ∷ [])) ≡ syntax 0 ∷ [] }
+    ensures is_without_a_colon { sheet_refusals (source (call "is(" (ident "b" ∷ []) ∷ braces [] ∷ [])) ≡ syntax 0 ∷ [] }
+    ensures is_at_any_depth { sheet_refusals (source (colon ∷ call "not(" (colon ∷ call "is(" (ident "b" ∷ []) ∷ []) ∷ braces [] ∷ [])) ≡ unbuilt 5 ∷ [] }
+    ensures nesting_at_any_depth { sheet_refusals (source (colon ∷ call "not(" (delim "&" ∷ []) ∷ braces [] ∷ [])) ≡ unbuilt 5 ∷ [] }
+    ensures nesting_behind_what_is_no_selector { sheet_refusals (source (ident "a" ∷ comma ∷ comma ∷ delim "&" ∷ braces [] ∷ [])) ≡ unbuilt 3 ∷ syntax 2 ∷ [] }
     ensures nesting { sheet_refusals (source (delim "&" ∷ ident "p" ∷ braces [] ∷ [])) ≡ unbuilt 0 ∷ syntax 0 ∷ [] }
     ensures nesting_is_named { first_refusal (sheet_refusals (source (delim "&" ∷ ident "p" ∷ braces [] ∷ []))) ≡ Some (unbuilt 0) }
     ensures first_of_two_that_are_no_selectors { sheet_refusals (source (ident "a" ∷ comma ∷ comma ∷ dot ∷ braces [] ∷ [])) ≡ syntax 2 ∷ [] }

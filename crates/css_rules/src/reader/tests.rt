@@ -1,7 +1,7 @@
-use crate::selector::Selector;
 use crate::testing::{large_list, repeated};
 use crate::{Declaration, Item, RuleFault, Sheet, read_sheet};
 use css_tokens::{Component, components, places_rise_in_a_text, tokens};
+use selector_tree::Selector;
 use std::alloc::Global;
 use std::test::Fail;
 
@@ -47,6 +47,13 @@ fn reads(rt: HostRuntime) -> Result<(), Fail> {
         ("p{;/**/}q{color:red}", 2, 0),
         ("p{color:red;margin:0 auto}", 1, 2),
         (" a > b , c { color : red ; --x: ; } /**/ ", 1, 2),
+        (".a{--x: 1 /* c */ 2;;width:100px\\9;--b:}", 1, 3),
+        (
+            "a:hover::before,[href='x' i],:not(.b,:lang(en)){top:0}",
+            1,
+            1,
+        ),
+        ("::-webkit-scrollbar-thumb:hover,:has(a),:where(){}", 1, 0),
     ];
     for (text, rules, declarations) in cases {
         let sheet = read(rt.alloc(), text)?;
@@ -102,7 +109,17 @@ fn fault(alloc: Global, text: &str) -> Option<(bool, u32)> {
 #[test]
 fn names_the_least_place(rt: HostRuntime) {
     let cases = [
-        ("a:hover{color:red}", true, 1),
+        ("a:is(.b,.c){color:red}", true, 1),
+        ("a:/**/\\49 S(b){}", true, 1),
+        (":not(:is(a)){}", true, 5),
+        ("a::is(b){}", true, 2),
+        ("a:has(&){}", true, 6),
+        ("a(b:c){}", false, 0),
+        ("a: is(b){}", false, 0),
+        (">a:b{}", false, 0),
+        ("a:b{}:not(){}", false, 5),
+        ("[a=]{}", false, 0),
+        ("&p{}", true, 0),
         ("@media print{p{color:red}}", true, 0),
         ("p{background:url(x.png)}", true, 13),
         ("p{margin-inline:0}", true, 2),

@@ -1,8 +1,7 @@
 use Rattle.std.proofs.Common.{List, ◌≡◌, [], ◌∷◌, ◌++◌, Bool, map, ap, ◌∙◌, sym}
 use Rattle.std.specs.Prelude.{codes, flat_map}
 use Rattle.std.proofs.lemmas.List.{append-nil}
-use Rattle.css_rules.specs.BareSelectors.{bare_list}
-use Rattle.css_rules.specs.SelectorTexts.{list_text}
+use Rattle.selector_tree.specs.Spelling.{list_text}
 use Rattle.css_rules.specs.SheetTexts.{block_text, printed_item}
 use Rattle.css_rules.specs.declared.sheet.Item.{Item}
 use Rattle.css_rules.specs.declared.sheet.Style.{Style}
@@ -19,25 +18,25 @@ pub write_style-returns-then-is_any_printed-clause-ok : goal.write_style-returns
 write_style-returns-then-is_any_printed-clause-ok t c =
     let s : Style = c.args.style.now in
     let some = asked s c.as_slice.result.now c.is_any_printed.result c.is_any_printed.ensures c.as_slice.ensures ∙ c.if-is_any_printed.true in
-    rw (text-style s ∙ rule-some (bare_list s.selectors) (block_text (map printed_item s.items)) some) c.write_rule.ensures.ok
+    rw (text-style s ∙ rule-some s.selectors (block_text (map printed_item s.items)) some) c.write_rule.ensures.ok
 
 pub write_style-returns-then-is_any_printed-clause-err : goal.write_style-returns-then-is_any_printed-clause-err
 write_style-returns-then-is_any_printed-clause-err t c =
     let s : Style = c.args.style.now in
     let some = asked s c.as_slice.result.now c.is_any_printed.result c.is_any_printed.ensures c.as_slice.ensures ∙ c.if-is_any_printed.true in
-    rw (text-style s ∙ rule-some (bare_list s.selectors) (block_text (map printed_item s.items)) some) c.write_rule.ensures.err
+    rw (text-style s ∙ rule-some s.selectors (block_text (map printed_item s.items)) some) c.write_rule.ensures.err
 
 pub write_style-returns-clause-ok : goal.write_style-returns-clause-ok
 write_style-returns-clause-ok t c =
     let s : Style = c.args.style.now in
     let old = c.args.out.now in
     let none = asked s c.as_slice.result.now c.is_any_printed.result c.is_any_printed.ensures c.as_slice.ensures ∙ c.if-is_any_printed.false in
-    sym (append-nil old) ∙ ap (λ text. old ++ text) (sym (text-style s ∙ rule-none (bare_list s.selectors) (block_text (map printed_item s.items)) none))
+    sym (append-nil old) ∙ ap (λ text. old ++ text) (sym (text-style s ∙ rule-none s.selectors (block_text (map printed_item s.items)) none))
 
 pub write_rule-returns-in_err-write_list-clause-err : goal.write_rule-returns-in_err-write_list-clause-err
 write_rule-returns-in_err-write_list-clause-err t c =
     let s : Style = c.args.style.now in
-    on_err c.from_residual.result (front_first c.args.out.now c.write_list.new.out (list_text (bare_list s.selectors)) _ (rw c.as_slice.ensures at c.in_err-write_list.ensures.err))
+    on_err c.from_residual.result (front_first c.args.out.now c.write_list.new.out (list_text s.selectors) _ (rw c.as_slice.ensures at c.in_err-write_list.ensures.err))
 
 pub write_rule-returns-in_err-write_block-clause-err : goal.write_rule-returns-in_err-write_block-clause-err
 write_rule-returns-in_err-write_block-clause-err t c =
@@ -47,7 +46,7 @@ write_rule-returns-in_err-write_block-clause-err t c =
     let list = rw c.as_slice.ensures at c.in_ok-write_list.ensures.ok in
     let block = rw c.as_slice-2.ensures at c.in_err-write_block.ensures.err in
     on_err c.from_residual-in_err-write_block.result
-    (front_second c.args.out.now c.write_list.new.out new (list_text (bare_list s.selectors)) _ list
+    (front_second c.args.out.now c.write_list.new.out new (list_text s.selectors) _ list
     (front_second c.write_list.new.out opened new (codes "{") _ c.in_ok-extend_from_slice.ensures.ok
     (front_first opened new (block_text (map printed_item s.items)) (codes "}" ++ 10 ∷ []) block)))
 
