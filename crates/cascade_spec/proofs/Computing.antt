@@ -1,19 +1,29 @@
--- How a sheet that is written out is laid open, so that what it gives to the cascade computes.
-use Rattle.std.proofs.Common.{◌≡◌, ℕ, List, [], ◌∷◌, ◌++◌, flat_map}
+-- How sheets and selectors that are written out are laid open, so that what they give to the cascade computes.
+use Rattle.std.proofs.Common.{◌≡◌, ℕ, List, [], ◌∷◌, ◌++◌, flat_map, map}
 use Rattle.css_tokens.specs.declared.component.Component.{Component, out-Component}
-use Rattle.css_tokens.specs.declared.component.Component as component
 use Rattle.css_tokens.specs.declared.component.Component.TheOpen.{Block}
 use Rattle.css_tokens.specs.declared.component.Component.TheVariants.{outs-Single, outs-Block}
 use Rattle.css_tokens.specs.Piece.{Piece}
 use Rattle.css_tokens.specs.Trees.{closing, pieces_all, pieces_of, pieces_of-Single, pieces_of-Block}
-use Rattle.css_rules.specs.declared.selector.Selector.{Selector}
+use Rattle.selector_tree.specs.declared.selector.Selector.{Selector}
+use Rattle.selector_tree.specs.Erased.{erased}
+use Rattle.selector_tree.specs.Signs.{mark_of, mark_of-Single, mark_of-Block, block_mark}
 use Rattle.css_rules.specs.declared.sheet.Item.{Item}
-use Rattle.css_rules.specs.declared.sheet.Item as item
-use Rattle.css_rules.specs.BareSelectors.{bare_list}
 use Rattle.css_tokens.specs.ValueAgain.{head_kind-Single, parted_within-Single, shortened-Single, takes_last-Single}
 use Rattle.css_rules.specs.Erased.{erased-Single}
 use Rattle.css_rules.specs.Contexts.{Context, under_list}
 use Rattle.css_rules.specs.Statements.{Statement, says, says-Plain, says-Style}
+use Rattle.std.specs.Prelude.{Option}
+use Rattle.selector_tree.specs.declared.selector.Combinator.{Combinator}
+use Rattle.selector_tree.specs.declared.selector.TypeName.{TypeName}
+use Rattle.selector_tree.specs.declared.selector.Link.TheVariants.{outs-Linked}
+use Rattle.selector_tree.specs.SelectorFold.{Steps, made_part, made_link, folded_compound, folded_selector, folded-Class, folded-Id, folded-Attribute, folded-Pseudo, folded-Not, folded-Is, folded-Where, folded-Parent, folded-Local, folded-Global, folded-Foreign, folded-Compound, folded-Selector}
+use Rattle.css_tokens.specs.declared.component.Component as component
+use Rattle.css_rules.specs.declared.sheet.Item as item
+use Rattle.selector_tree.specs.declared.selector.Tail as tail
+use Rattle.selector_tree.specs.declared.selector.Compound as compound
+use Rattle.selector_tree.specs.declared.selector.Link as link
+use Rattle.selector_tree.specs.declared.selector.Part as part
 
 -- a block, and its tokens
 pub block-out : (opening : Piece) (items : List Component) (close : ℕ)
@@ -24,10 +34,24 @@ pub block-pieces : (opening : Piece) (items : List Component) (close : ℕ)
     → pieces_of (component.Block (record { opening = opening; items = items; close = close })) ≡ opening ∷ pieces_all items ++ closing opening close ∷ []
 block-pieces opening items close = pieces_of-Block (record { opening = opening; items = items; close = close })
 
+-- what a block is to the grammar of selectors
+pub block-mark : (opening : Piece) (items : List Component) (close : ℕ)
+    → mark_of (component.Block (record { opening = opening; items = items; close = close })) ≡ block_mark opening (map mark_of items)
+block-mark opening items close = mark_of-Block (record { opening = opening; items = items; close = close })
+
 -- what a style rule says
 pub rule-says : (selectors : List Selector) (items : List Item) (at : ℕ) (c : Context)
-    → says (item.Style (record { selectors = selectors; items = items; at = at })) c ≡ flat_map (λ inner. says inner (under_list (bare_list selectors) c)) items
+    → says (item.Style (record { selectors = selectors; items = items; at = at })) c ≡ flat_map (λ inner. says inner (under_list (map erased selectors) c)) items
 rule-says selectors items at c = says-Style (record { selectors = selectors; items = items; at = at }) c
 
--- the equations by which the worked examples of sheets compute
-pub ruleset computing = (outs-Single, block-out, pieces_of-Single, block-pieces, says-Plain, rule-says, shortened-Single, parted_within-Single, takes_last-Single, erased-Single, head_kind-Single)
+-- a compound and a selector that are written out
+pub made-compound : {M K S : Type 0} (steps : Steps M K S) (kind : TypeName) (parts : List part.Part) (tail : Option tail.Tail)
+    → folded_compound steps (record { kind = kind; parts = parts; tail = tail }) ≡ steps.compound kind (map (made_part steps) parts) tail
+made-compound steps kind parts tail = folded-Compound steps (record { kind = kind; parts = parts; tail = tail })
+
+pub made-selector : {M K S : Type 0} (steps : Steps M K S) (lead : Option Combinator) (first : compound.Compound) (rest : List link.Link) (at : ℕ)
+    → folded_selector steps (record { lead = lead; first = first; rest = rest; at = at }) ≡ steps.selector lead (folded_compound steps first) (map (made_link steps) rest) at
+made-selector steps lead first rest at = folded-Selector steps (record { lead = lead; first = first; rest = rest; at = at })
+
+-- the equations by which the worked examples compute
+pub ruleset computing = (outs-Single, block-out, pieces_of-Single, block-pieces, says-Plain, rule-says, shortened-Single, parted_within-Single, takes_last-Single, erased-Single, head_kind-Single, mark_of-Single, block-mark, outs-Linked, folded-Class, folded-Id, folded-Attribute, folded-Pseudo, folded-Not, folded-Is, folded-Where, folded-Parent, folded-Local, folded-Global, folded-Foreign, made-compound, made-selector)

@@ -1,14 +1,14 @@
 -- What is written from a sheet reads as it again, and so keeps the winners of its text.
-use Rattle.std.proofs.Common.{◌≡◌, ℕ, List, [], ◌∷◌, ◌++◌, map, flat_map, Bool, true, false, ◌&&◌, not, Option, Some, None, refl, sym, ◌∙◌, ap, subst, IsTrue}
+use Rattle.std.proofs.Common.{◌≡◌, ℕ, List, map, flat_map, Option, Some, None, refl, sym, ◌∙◌, ap, subst, IsTrue}
 use Rattle.std.specs.List.{list_all}
 use Rattle.std.specs.Option.{option_map}
 use Rattle.css_tokens.specs.declared.component.Component.{Component}
 use Rattle.css_tokens.specs.Piece.{Word}
 use Rattle.css_tokens.specs.Tokens.{Reads}
 use Rattle.css_tokens.specs.Trees.{words_all, all_formed}
-use Rattle.css_rules.specs.ReadableSelectors.{is_spelled}
+use Rattle.selector_tree.specs.ReadableSelectors.{is_spelled}
 use Rattle.css_rules.specs.Runs.{Run, BareRun, bare_run, bare_runs, runs_of}
-use Rattle.css_rules.specs.Printable.{ArePrintable}
+use Rattle.css_rules.specs.Printable.{ArePrintable, is_whole}
 use Rattle.css_rules.specs.Sheets.{sheet_of}
 use Rattle.css_rules.specs.SheetAgain.{sheet_again}
 use Rattle.css_rules.specs.SheetTexts.{runs_text, sheet_text}
@@ -26,7 +26,7 @@ pub record SheetLaws : Type 0 where
   pub one : (t : List ℕ) (a b : List Word) → Reads t a → Reads t b → a ≡ b
   pub names : NameLaws
   pub flat : (cs : List Component) (sheet : Sheet) → sheet_of cs ≡ Some sheet → sheet_text sheet ≡ runs_text (runs_of sheet)
-  pub printable : (cs : List Component) (sheet : Sheet) → sheet_of cs ≡ Some sheet → IsTrue (all_formed cs) → IsTrue (list_all is_spelled (words_all cs)) → ArePrintable (runs_of sheet)
+  pub printable : (cs : List Component) (sheet : Sheet) → sheet_of cs ≡ Some sheet → IsTrue (all_formed cs) → IsTrue (list_all is_spelled (words_all cs)) → IsTrue (list_all is_whole (runs_of sheet)) → ArePrintable (runs_of sheet)
   pub standing : (text : List ℕ) (cs : List Component) (sheet : Sheet) → Reads text (words_all cs) → IsTrue (all_formed cs) → sheet_of cs ≡ Some sheet → AllStand (runs_of sheet)
   pub reads : (runs : List Run) → ArePrintable runs → AllStand runs → Reads (runs_text runs) (words_all (sheet_again runs))
   pub formed : (runs : List Run) → ArePrintable runs → IsTrue (all_formed (sheet_again runs))
@@ -47,11 +47,11 @@ module _ (laws : SheetLaws) where
       cc same
 
   -- what is written from a sheet reads as the sheet of its text
-  pub reads-again : (source : List ℕ) (sheet : Sheet) → HasSheet source sheet → IsReadAgain source (sheet_text sheet)
-  reads-again source sheet has =
+  pub reads-again : (source : List ℕ) (sheet : Sheet) → HasSheet source sheet → IsTrue (list_all is_whole (runs_of sheet)) → IsReadAgain source (sheet_text sheet)
+  reads-again source sheet has whole =
       let cs = has.0 in
       let runs = runs_of sheet in
-      let printable : ArePrintable runs = laws.printable cs sheet has.2 has.1.formed (words-spelled laws.names source (words_all cs) has.1.reads) in
+      let printable : ArePrintable runs = laws.printable cs sheet has.2 has.1.formed (words-spelled laws.names source (words_all cs) has.1.reads) whole in
       let stands : AllStand runs = laws.standing source cs sheet has.1.reads has.1.formed has.2 in
       let again = sheet_behind (sheet_of (sheet_again runs)) (map bare_run runs) (laws.same runs printable) in
       let written : HasSheet (runs_text runs) again.0 = (sheet_again runs, record { reads = laws.reads runs printable stands; formed = laws.formed runs printable }, again.1) in

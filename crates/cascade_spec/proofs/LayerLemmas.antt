@@ -1,15 +1,14 @@
 -- Layers have the order of the standard.
-use Rattle.std.proofs.Common.{◌≡◌, ◌≢◌, ℕ, zero, suc, ◌+◌, ◌<◌, ◌≤◌, List, [], ◌∷◌, ◌++◌, length, Bool, true, false, ◌&&◌, Option, Some, None, refl, sym, ◌∙◌, ap, subst, arith, inl, inr, ◌⊎◌, slice_get, if◌then◌else◌, IsTrue, append_assoc, append-nil, nat_eq, eqb-true, eq-eqb}
+use Rattle.std.proofs.Common.{◌≡◌, ℕ, zero, suc, ◌+◌, ◌<◌, ◌≤◌, List, [], ◌∷◌, ◌++◌, length, Bool, true, false, ◌&&◌, Some, refl, sym, ◌∙◌, ap, subst, arith, if◌then◌else◌, append_assoc, append-nil, eqb-true, eq-eqb}
 use Rattle.std.specs.Ordering.{nat_cmp, ordering_then}
 use Rattle.std.specs.Cmp.{nat_cmp_is}
 use Rattle.std.specs.Cmp.Lexicographic.{slice_cmp, same_text}
-use Rattle.std.specs.declared.cmp.Ordering.{Ordering}
-use Rattle.std.specs.declared.cmp.Ordering.TheVariants.{Less, Equal, Greater}
+use Rattle.std.specs.declared.cmp.Ordering.TheVariants.{Less, Equal}
 use Rattle.css_rules.specs.Contexts.{LayerPath}
 use Rattle.css_rules.specs.declared.sheet.LayerName.{LayerName}
 use Rattle.css_rules.specs.declared.sheet.LayerName.TheVariants.{Named, Anonymous}
 use Rattle.css_tokens.specs.Trees.{is_text}
-use Rattle.cascade_spec.specs.Layers.{same_layer, is_mention, first_mention, steps_of, layer_cmp}
+use Rattle.cascade_spec.specs.Layers.{same_layer, is_mention, first_mention, steps_of}
 use Rattle.cascade_spec.specs.LayerOrder.{IsFirstMention, AreOrdered}
 
 less : (a b : ℕ) → a < b → nat_cmp a b ≡ Less

@@ -4,4 +4,6 @@ pub mod KeepsLemmas
 pub mod WinnerLemmas
 pub mod RelationLemmas
 pub mod LayerLemmas
+pub mod HashLemmas
 pub mod SpelledWords
+pub mod PlaceLemmas

@@ -1,11 +1,11 @@
 -- The combinators hold along chains of parents and of earlier siblings, of any length.
-use Rattle.std.proofs.Common.{◌≡◌, ◌≢◌, ℕ, zero, suc, ◌<◌, ◌≤◌, Bool, true, false, ◌&&◌, ◌||◌, Option, Some, None, refl, sym, ◌∙◌, ap, subst, arith, inl, inr, slice_get, length, nat_eq, eqb-true, eq-or-lt_of_le, ◌⊎◌, IsTrue, if◌then◌else◌, eq-eqb}
+use Rattle.std.proofs.Common.{◌≡◌, ℕ, zero, suc, ◌<◌, ◌≤◌, Bool, true, false, ◌&&◌, ◌||◌, Option, Some, None, refl, sym, ◌∙◌, ap, subst, arith, inl, inr, slice_get, length, eqb-true, eq-or-lt_of_le, ◌⊎◌, if◌then◌else◌, eq-eqb}
 use Rattle.std.specs.Option.{option_and_then, option_map_or}
 use Rattle.std.proofs.lemmas.Option.{slice_get_within}
 use Rattle.cascade_spec.specs.declared.document.Document.{Document}
 use Rattle.cascade_spec.specs.declared.document.Element.{Element}
-use Rattle.css_rules.specs.declared.selector.Combinator.TheVariants.{Descendant, Child, Next, Later}
-use Rattle.cascade_spec.specs.Matching.{parent_of, same_number, of_parent, of_ancestors, previous_among, of_siblings_among, is_related}
+use Rattle.selector_tree.specs.declared.selector.Combinator.TheVariants.{Descendant, Child, Next, Later}
+use Rattle.cascade_spec.specs.Elements.{parent_of, same_number, of_ancestors, previous_among, of_siblings_among, is_related}
 use Rattle.cascade_spec.specs.Relations.{steps_from, IsReached, IsPrevious, previous_of, ParentsComeFirst, HoldsOfOne}
 
 -- a test of what there may be holds of what there is

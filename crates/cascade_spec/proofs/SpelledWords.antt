@@ -11,17 +11,19 @@ use Rattle.std.proofs.lemmas.List.Sums.{fails_before_first, list_all-from_AllPas
 use Rattle.std.proofs.lemmas.Str.{IsUtf8-drop, IsUtf8-from_is_utf8, IsUtf8-nil, IsUtf8-take, IsCharBoundary-after_ascii, is_utf8-from_IsUtf8}
 use Rattle.css_tokens.specs.declared.kind.Kind.{Kind}
 use Rattle.css_tokens.specs.declared.kind.Kind.TheVariants as kinds
-use Rattle.css_tokens.specs.Names.{is_name, name_of_word}
+use Rattle.css_tokens.specs.Names.{is_content, is_name, name_of_word}
 use Rattle.css_tokens.specs.Piece.{Word}
-use Rattle.css_tokens.specs.Tokens.{First, Reads, ReadsTo, after_mark, bad_place, broken_place, first_front, is_control, or_else, spells, word}
+use Rattle.css_tokens.specs.Tokens.{First, Reads, ReadsTo, after_mark, bad_place, first_front, is_control, or_else, spells, word}
 use Rattle.css_tokens.proofs.Boundaries.{first_boundary}
-use Rattle.css_rules.specs.ReadableSelectors.{is_clean, is_named, is_spelled}
-use Rattle.css_rules.specs.Signs.{is_id, starts_ident}
+use Rattle.selector_tree.specs.Names.{is_id}
+use Rattle.selector_tree.specs.ReadableSelectors.{is_clean, is_named, is_spelled}
+use Rattle.cascade_spec.proofs.HashLemmas.{hash-first}
 
 -- what the token crate ensures of names
 pub record NameLaws : Type 0 where
   pub decoded : (t : List ℕ) → IsUtf8 t → spells kinds.Ident t ≡ true → is_name (name_of_word kinds.Ident t) ≡ true
   pub hash_decoded : (t : List ℕ) → IsUtf8 t → spells kinds.Hash (codes "#" ++ t) ≡ true → is_name (name_of_word kinds.Hash (codes "#" ++ t)) ≡ true
+  pub string_decoded : (t : List ℕ) → IsUtf8 t → spells kinds.String t ≡ true → is_content (name_of_word kinds.String t) ≡ true
   pub first : (t : List ℕ) (w : Word) → First t w → spells w.kind w.text ≡ true
 
 -- A text without a bad place is in UTF-8, and has no control character.
@@ -109,10 +111,9 @@ first-good t w g first = at (first_front t) refl first
 
 id-named : NameLaws → (u : List ℕ) → IsUtf8 u → spells kinds.Hash u ≡ true → (not (is_id u) || is_name (name_of_word kinds.Hash u)) ≡ true
 id-named laws [] u h = refl
-id-named laws (b ∷ bs) u h = elim (cases_Bool (nat_eq b 35)) [
-  | inl e ↦ subst (λ (x : ℕ). IsUtf8 (x ∷ bs) → spells kinds.Hash (x ∷ bs) ≡ true → (not (is_id (x ∷ bs)) || is_name (name_of_word kinds.Hash (x ∷ bs))) ≡ true) (sym (eqb-true b 35 e)) (of_hash bs) u h
-  | inr e ↦ ap (λ (x : Bool). not (x && starts_ident bs) || is_name (name_of_word kinds.Hash (b ∷ bs))) e
-]
+id-named laws (b ∷ bs) u h =
+    subst (λ (x : ℕ). IsUtf8 (x ∷ bs) → spells kinds.Hash (x ∷ bs) ≡ true → (not (is_id (x ∷ bs)) || is_name (name_of_word kinds.Hash (x ∷ bs))) ≡ true)
+    (sym (hash-first b bs h)) (of_hash bs) u h
   where
     behind : (bs : List ℕ) → IsUtf8 (35 ∷ bs) → IsUtf8 bs
     behind bs u = IsUtf8-drop (35 ∷ bs) 1 u (IsCharBoundary-after_ascii (35 ∷ bs) 0 u (omega arith) (omega arith))
@@ -127,6 +128,7 @@ id-named laws (b ∷ bs) u h = elim (cases_Bool (nat_eq b 35)) [
 named-word : NameLaws → (k : Kind) (u : List ℕ) → IsUtf8 u → spells k u ≡ true → is_named k u ≡ true
 named-word laws kinds.Ident u whole h = laws.decoded u whole h
 named-word laws kinds.Hash u whole h = id-named laws u whole h
+named-word laws kinds.String u whole h = laws.string_decoded u whole h
 named-word laws _ u whole h = refl
 
 words-good : NameLaws → (t : List ℕ) (ws : List Word) (rest : List ℕ) → IsGood t → ReadsTo t ws rest → list_all is_spelled ws ≡ true

@@ -7,6 +7,7 @@ use Rattle.css_rules.specs.Runs.{BareDeclaration}
 use Rattle.cascade_spec.specs.declared.environment.Environment.{Environment}
 use Rattle.cascade_spec.specs.declared.environment.Shorthand.{Shorthand}
 use Rattle.cascade_spec.specs.Worlds.{World}
+use Rattle.cascade_spec.specs.Standings.{Standing}
 
 -- a physical declaration
 pub record Entry : Type 0 where
@@ -22,9 +23,9 @@ entries_of world d = record { name = d.name; value = value_text d.value; importa
 abbrev pub is_rejected : Environment → Entry → Bool
 is_rejected env e = list_any (λ pair. is_text pair.0 e.name && is_text pair.1 e.value) env.rejected
 
--- does the browser take the declaration?
-abbrev pub is_active : Environment → Entry → Bool
-is_active env e = not (is_rejected env e)
+-- Does the browser take the declaration? It drops a rule for a pseudo-class or pseudo-element that it does not know, and rejects some declarations.
+abbrev pub is_active : Environment → Standing → Entry → Bool
+is_active env s e = not s.around.dropped && not (is_rejected env e)
 
 -- the value of the last pair with this name
 abbrev pub last_value : List ℕ → List (List ℕ × List ℕ) → Option (List ℕ)

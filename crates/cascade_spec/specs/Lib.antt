@@ -1,7 +1,9 @@
 pub mod Lines
-pub mod Specificities
 pub mod Worlds
+pub mod Elements
 pub mod Matching
+pub mod Implied
+pub mod Surroundings
 pub mod Relations
 pub mod Layers
 pub mod LayerOrder
@@ -11,4 +13,5 @@ pub mod Cascade
 pub mod Showing
 pub mod Contents
 pub mod Readings
+pub mod SelectorSamples
 pub mod Samples

@@ -2,7 +2,7 @@
 use Rattle.std.specs.Prelude.{ℕ, zero, suc, ◌<◌, ◌≡◌, ◌≢◌, Bool, IsTrue, Option, Some}
 use Rattle.std.specs.Option.{option_and_then}
 use Rattle.cascade_spec.specs.declared.document.Document.{Document}
-use Rattle.cascade_spec.specs.Matching.{parent_of, previous_among}
+use Rattle.cascade_spec.specs.Elements.{parent_of, previous_among}
 
 -- where so many steps lead from an element, if they lead to one
 abbrev pub steps_from : (ℕ → Option ℕ) → ℕ → ℕ → Option ℕ

@@ -13,7 +13,7 @@ use Rattle.cascade_spec.specs.Cascade.{Question, Shown, same_importance, winning
 
 -- does the entry have the importance that is asked for, is it active, and does it match the subject?
 abbrev pub applies : Question → Standing → Entry → Bool
-applies q s e = same_importance e.important q.important && (is_active q.world.environment e && s.around.holds q.subject)
+applies q s e = same_importance e.important q.important && (is_active q.world.environment s e && s.around.holds q.subject)
 
 -- what an entry that stands so shows to a question, where it applies and sets the longhand
 abbrev pub entry_shows : Question → Standing → Entry → Option Shown

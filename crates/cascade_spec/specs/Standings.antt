@@ -1,7 +1,7 @@
 -- What the surroundings of a declaration are in a world.
 use Rattle.css_rules.specs.Contexts.{LayerPath, Context}
 use Rattle.cascade_spec.specs.Worlds.{World}
-use Rattle.cascade_spec.specs.Matching.{Around, around_all}
+use Rattle.cascade_spec.specs.Surroundings.{Around, around_all}
 
 -- the layer, and what the selector lists are for a declaration in them
 pub record Standing : Type 0 where

@@ -1,15 +1,16 @@
 //! Worked examples of the definitions of this crate, each the contract of a function that does nothing. They speak of the
-//! page, the rules and the browser of `specs/Samples.antt`.
+//! page, the browser and the rules of `specs/SelectorSamples.antt` and `specs/Samples.antt`.
+
+pub mod matching;
 
 ghost use Rattle.std.specs.Prelude.{◌≡◌, List, [], ◌∷◌, true, false, Some, None, codes};
 ghost use Rattle.std.specs.declared.cmp.Ordering.TheVariants.{Less, Equal, Greater};
-ghost use Rattle.css_rules.specs.declared.selector.Combinator.TheVariants.{Descendant, Child, Next, Later};
-ghost use Rattle.css_rules.specs.Samples.{every, one, two, source, ident, delim, dot, colon, semicolon, braces};
+ghost use Rattle.css_rules.specs.Samples.{dot, semicolon, braces};
 ghost use Rattle.css_rules.specs.Sheets.{sheet_of};
 ghost use Rattle.std.specs.Option.{option_map};
 ghost use Rattle.cascade_spec.specs.Lines.{line_of, column_of};
-ghost use Rattle.cascade_spec.specs.Specificities.{plus, specificity_cmp, greatest};
-ghost use Rattle.cascade_spec.specs.Matching.{top, within, selector_holds, selector_specificity};
+ghost use Rattle.selector_tree.specs.declared.selector.Simple as simple;
+ghost use Rattle.selector_tree.specs.Samples.{colon, delim, ended, every, ident, one, source, triple};
 ghost use Rattle.cascade_spec.specs.Layers.{layer_cmp};
 ghost use Rattle.cascade_spec.specs.Entries.{is_active, value_set};
 ghost use Rattle.css_rules.specs.Contexts.{outside};
@@ -17,7 +18,8 @@ ghost use Rattle.css_rules.specs.Statements.{Passes, Mentions, statements_of};
 ghost use Rattle.cascade_spec.specs.Cascade.{winning};
 ghost use Rattle.cascade_spec.specs.Contents.{winner, passed_rules};
 ghost use Rattle.cascade_spec.specs.Showing.{showing, last_ones};
-ghost use Rattle.cascade_spec.specs.Samples.{page, deep, whole, before, kind, class, id, parent, also, three, led, led_two, inside, inner, matched, specificity, layer, sublayer, innermost, unnamed, mentions, more_mentions, seen, normal, important, entry, important_entry, rule, list_rule, nested_rule, browser, asked, given, layered, in_layer, passed, face};
+ghost use Rattle.cascade_spec.specs.SelectorSamples.{kind, class, id, pseudo, parent, simply, also, browser, pseudo_element};
+ghost use Rattle.cascade_spec.specs.Samples.{layer, sublayer, innermost, unnamed, mentions, more_mentions, seen, normal, important, entry, important_entry, at_top, rule, inside_lists, list_rule, nested_rule, asked, asked_of, given, layered, in_layer, passed, face};
 
 /// Lines and columns begin at 1, and only LF begins a line.
 pub fn lines_and_columns()
@@ -36,118 +38,6 @@ pub fn lines_and_columns()
     ensures third_line { line_of (codes "a\nbc\nd") 6 ≡ 3 }
     ensures column_of_the_third_line { column_of (codes "a\nbc\nd") 6 ≡ 2 }
     ensures column_in_bytes { column_of (195 ∷ 169 ∷ []) 2 ≡ 3 }
-{}
-
-/// Which elements of the page a selector at the top of a sheet matches (Selectors 4, sections 5, 6 and 15).
-pub fn selectors_match()
-    ensures universal { matched top (one every) ≡ 0 ∷ 1 ∷ 2 ∷ 3 ∷ 4 ∷ 5 ∷ [] }
-    ensures type_name { matched top (one (kind "p")) ≡ 2 ∷ 3 ∷ [] }
-    ensures class_name { matched top (one (class "a")) ≡ 1 ∷ 3 ∷ [] }
-    ensures id_name { matched top (one (id "b")) ≡ 2 ∷ [] }
-    ensures id_is_no_class { matched top (one (class "b")) ≡ [] }
-    ensures front_of_a_name { matched top (one (class "re")) ≡ [] }
-    ensures compound { matched top (one (also (kind "p") "a")) ≡ 3 ∷ [] }
-    ensures two_classes { matched top (one (also (class "a") "red")) ≡ 3 ∷ [] }
-    ensures descendant { matched top (two (kind "main") Descendant (kind "em")) ≡ 4 ∷ [] }
-    ensures not_of_itself { matched top (two (kind "em") Descendant (kind "em")) ≡ [] }
-    ensures child { matched top (two (kind "main") Child every) ≡ 1 ∷ 2 ∷ 3 ∷ [] }
-    ensures no_grandchild { matched top (two (kind "main") Child (kind "em")) ≡ [] }
-    ensures next { matched top (two (kind "h1") Next (kind "p")) ≡ 2 ∷ [] }
-    ensures next_of_a_kind { matched top (two (kind "p") Next (kind "p")) ≡ 3 ∷ [] }
-    ensures later { matched top (two (kind "h1") Later (kind "p")) ≡ 2 ∷ 3 ∷ [] }
-    ensures not_earlier { matched top (two (kind "p") Later (kind "h1")) ≡ [] }
-    ensures without_parents_are_siblings { matched top (two (kind "main") Next (kind "aside")) ≡ 5 ∷ [] }
-    ensures no_sibling_of_another_parent { matched top (two (kind "p") Later (kind "aside")) ≡ [] }
-    ensures later_then_descendant { matched top (three (kind "h1") Later (kind "p") Descendant (kind "em")) ≡ 4 ∷ [] }
-    ensures next_then_descendant { matched top (three (kind "h1") Next (kind "p") Descendant (kind "em")) ≡ [] }
-    ensures no_element { selector_holds page top (one every) (whole 6) ≡ false }
-    ensures no_pseudo_element { selector_holds page top (one every) (before 3) ≡ false }
-    ensures no_parent_rule { matched top (one parent) ≡ [] }
-{}
-
-/// What names match, and which elements stand to others as a combinator says (Selectors 4, sections 5, 6 and 15).
-/// Names are compared as in a document whose language tells upper and lower case apart.
-pub fn names_and_places_match()
-    ensures type_in_another_case { matched top (one (kind "P")) ≡ [] }
-    ensures class_in_another_case { matched top (one (class "A")) ≡ [] }
-    ensures id_in_another_case { matched top (one (id "B")) ≡ [] }
-    ensures class_is_no_id { matched top (one (id "a")) ≡ [] }
-    ensures type_is_no_class { matched top (one (class "em")) ≡ [] }
-    ensures second_class { matched top (one (class "red")) ≡ 3 ∷ [] }
-    ensures later_not_of_itself { matched top (two (kind "p") Later (kind "p")) ≡ 3 ∷ [] }
-    ensures next_is_not_further { matched top (two (class "a") Next (class "a")) ≡ [] }
-    ensures later_is_further { matched top (two (class "a") Later (class "a")) ≡ 3 ∷ [] }
-    ensures later_without_parents { matched top (two (kind "main") Later (kind "aside")) ≡ 5 ∷ [] }
-    ensures no_child_of_a_sibling { matched top (two (kind "h1") Descendant (kind "em")) ≡ [] }
-    ensures child_of_a_child { matched top (three (kind "main") Child (kind "p") Child (kind "em")) ≡ 4 ∷ [] }
-    ensures of_a_great_grandparent { selector_holds deep top (two (kind "main") Descendant (kind "em")) (whole 3) ≡ true }
-    ensures of_the_outer_of_two { selector_holds deep top (three (kind "main") Child (kind "div") Descendant (kind "em")) (whole 3) ≡ true }
-    ensures of_the_inner_of_two { selector_holds deep top (three (kind "div") Child (kind "div") Descendant (kind "em")) (whole 3) ≡ true }
-    ensures only_of_the_outer { selector_holds deep top (three (kind "main") Child (kind "div") Child (kind "em")) (whole 3) ≡ false }
-{}
-
-/// Which elements a selector matches inside a rule `#b, .a` (CSS Nesting 1, section 3).
-pub fn nested_selectors_match()
-    ensures parent_alone { matched inside (one parent) ≡ 1 ∷ 2 ∷ 3 ∷ [] }
-    ensures compound { matched inside (one (also parent "red")) ≡ 3 ∷ [] }
-    ensures descendant_is_implied { matched inside (one (kind "em")) ≡ 4 ∷ [] }
-    ensures of_any_ancestor { matched (within page top (one (kind "main") ∷ [])) (one (kind "em")) ≡ 4 ∷ [] }
-    ensures not_of_the_parent_itself { matched inside (one (kind "p")) ≡ [] }
-    ensures parent_is_implied { matched inside (led Child (kind "em")) ≡ 4 ∷ [] }
-    ensures next_of_the_parent { matched inside (led Next every) ≡ 2 ∷ 3 ∷ [] }
-    ensures parent_twice { matched inside (two parent Next parent) ≡ 2 ∷ 3 ∷ [] }
-    ensures parent_last { matched inside (two (kind "h1") Next parent) ≡ 2 ∷ [] }
-    ensures parent_first { matched inside (two parent Child (kind "em")) ≡ 4 ∷ [] }
-    ensures parent_behind_two { matched inside (three (kind "main") Child (kind "h1") Next parent) ≡ 2 ∷ [] }
-    ensures parent_is_implied_beside_another { matched inside (led_two Next (kind "h1") Next parent) ≡ [] }
-    ensures parent_before_and_behind { matched inside (led_two Next (kind "p") Next parent) ≡ 3 ∷ [] }
-    ensures no_pseudo_element { selector_holds page inside (one parent) (before 3) ≡ false }
-    ensures no_pseudo_element_of_a_descendant { selector_holds page inside (one (kind "em")) (before 4) ≡ false }
-    ensures parent_is_the_inner_rule { matched inner (one parent) ≡ 3 ∷ [] }
-    ensures descendant_of_the_inner_rule { matched inner (one (kind "em")) ≡ 4 ∷ [] }
-    ensures nothing_in_the_inner_rule { matched inner (led Child (kind "p")) ≡ [] }
-{}
-
-/// The specificities of selectors: examples of Selectors 4, section 17, and of selectors inside a rule `#b, .a`.
-pub fn specificities()
-    ensures universal { selector_specificity top (one every) ≡ specificity 0 0 0 }
-    ensures type_name { selector_specificity top (one (kind "li")) ≡ specificity 0 0 1 }
-    ensures class_name { selector_specificity top (one (class "a")) ≡ specificity 0 1 0 }
-    ensures id_name { selector_specificity top (one (id "b")) ≡ specificity 1 0 0 }
-    ensures descendant { selector_specificity top (two (kind "ul") Descendant (kind "li")) ≡ specificity 0 0 2 }
-    ensures child { selector_specificity top (two (class "a") Child (kind "p")) ≡ specificity 0 1 1 }
-    ensures three_types { selector_specificity top (three (kind "ul") Descendant (kind "ol") Next (kind "li")) ≡ specificity 0 0 3 }
-    ensures three_types_and_a_class { selector_specificity top (three (kind "ul") Descendant (kind "ol") Descendant (also (kind "li") "red")) ≡ specificity 0 1 3 }
-    ensures two_classes { selector_specificity top (one (also (also (kind "li") "red") "level")) ≡ specificity 0 2 1 }
-    ensures most_of_the_parent { selector_specificity inside (one parent) ≡ specificity 1 0 0 }
-    ensures parent_counts_each_time { selector_specificity inside (two parent Next parent) ≡ specificity 2 0 0 }
-    ensures implied_parent { selector_specificity inside (one (kind "em")) ≡ specificity 1 0 1 }
-    ensures list_by_its_matching_class { inside.specific (whole 3) ≡ specificity 0 1 0 }
-    ensures list_by_its_matching_id { inside.specific (whole 2) ≡ specificity 1 0 0 }
-    ensures ids_first { specificity_cmp (specificity 1 0 0) (specificity 0 9 9) ≡ Greater }
-    ensures then_classes { specificity_cmp (specificity 0 1 0) (specificity 0 0 9) ≡ Greater }
-    ensures then_types { specificity_cmp (specificity 0 1 1) (specificity 0 1 2) ≡ Less }
-    ensures ties { specificity_cmp (specificity 1 2 3) (specificity 1 2 3) ≡ Equal }
-    ensures greatest_of_several { greatest (specificity 0 0 9 ∷ specificity 0 1 0 ∷ specificity 0 0 1 ∷ []) ≡ specificity 0 1 0 }
-    ensures greatest_of_none { greatest [] ≡ specificity 0 0 0 }
-    ensures counted_up_to_a_cap { plus (specificity 0 65535 1) (specificity 0 5 1) ≡ specificity 0 65536 2 }
-{}
-
-/// How specific lists and nested selectors are, and how great a specificity is (Selectors 4, section 17; CSS Nesting 1).
-pub fn specificities_of_lists()
-    ensures most_specific_is_last { (within page top (one (kind "p") ∷ one (class "a") ∷ [])).specific (whole 3) ≡ specificity 0 1 0 }
-    ensures most_specific_is_first { (within page top (one (class "a") ∷ one (kind "p") ∷ [])).specific (whole 3) ≡ specificity 0 1 0 }
-    ensures parent_by_its_last { selector_specificity (within page top (one (class "a") ∷ one (id "b") ∷ [])) (one parent) ≡ specificity 1 0 0 }
-    ensures parent_in_a_nested_rule { selector_specificity inner (one parent) ≡ specificity 1 1 0 }
-    ensures implied_in_a_nested_rule { selector_specificity inner (one (kind "em")) ≡ specificity 1 1 1 }
-    ensures nested_rule_by_the_most_of_its_parent { inner.specific (whole 3) ≡ specificity 1 1 0 }
-    ensures implied_before_a_combinator { selector_specificity inside (led Child (kind "em")) ≡ specificity 1 0 1 }
-    ensures implied_beside_another { selector_specificity inside (led_two Next (kind "h1") Next parent) ≡ specificity 2 0 1 }
-    ensures class_twice { selector_specificity top (one (also (class "a") "a")) ≡ specificity 0 2 0 }
-    ensures many_classes_are_no_id { specificity_cmp (specificity 1 0 0) (specificity 0 300 0) ≡ Greater }
-    ensures many_types_are_no_class { specificity_cmp (specificity 0 0 300) (specificity 0 1 0) ≡ Less }
-    ensures ids_up_to_a_cap { plus (specificity 65536 0 0) (specificity 1 1 1) ≡ specificity 65536 1 1 }
-    ensures types_up_to_a_cap { plus (specificity 0 0 65536) (specificity 0 0 65536) ≡ specificity 0 0 65536 }
 {}
 
 /// The order of the layers of `@layer reset, base, base.theme` and of a longer statement (CSS Cascading 5, section 6.4).
@@ -174,12 +64,12 @@ pub fn layers_have_an_order()
 
 /// What declarations are active in the browser, and what they set.
 pub fn declarations_set()
-    ensures active { is_active browser (entry "color" "red") ≡ true }
-    ensures rejected { is_active browser (entry "color" "oops") ≡ false }
-    ensures second_rejected { is_active browser (entry "width" "bad") ≡ false }
-    ensures name_of_one_and_value_of_another { is_active browser (entry "color" "bad") ≡ true }
-    ensures important_and_rejected { is_active browser (important_entry "color" "oops") ≡ false }
-    ensures other_name { is_active browser (entry "width" "oops") ≡ true }
+    ensures active { is_active browser at_top (entry "color" "red") ≡ true }
+    ensures rejected { is_active browser at_top (entry "color" "oops") ≡ false }
+    ensures second_rejected { is_active browser at_top (entry "width" "bad") ≡ false }
+    ensures name_of_one_and_value_of_another { is_active browser at_top (entry "color" "bad") ≡ true }
+    ensures important_and_rejected { is_active browser at_top (important_entry "color" "oops") ≡ false }
+    ensures other_name { is_active browser at_top (entry "width" "oops") ≡ true }
     ensures own_longhand { value_set browser (entry "color" "red") (codes "color") ≡ Some (codes "red") }
     ensures other_longhand { value_set browser (entry "color" "red") (codes "width") ≡ None }
     ensures first_of_a_shorthand { value_set browser (entry "margin" "1px 2px") (codes "margin-top") ≡ Some (codes "1px") }
@@ -217,17 +107,29 @@ pub fn declarations_win()
     ensures second_of_three { winner (asked false "color") (given (rule every (normal "color" "red" ∷ []) ∷ rule (class "a") (normal "color" "blue" ∷ []) ∷ rule (kind "p") (normal "color" "green" ∷ []) ∷ [])) ≡ Some (codes "blue") }
 {}
 
+/// A rule is dropped where the browser does not know a pseudo-class or pseudo-element in its list or in one round it, outside
+/// `:is` and `:where` (Selectors 4, sections 3.9 and 4.2). It counts for the subjects that its list matches, pseudo-elements too.
+pub fn rules_are_dropped()
+    ensures unknown { winner (asked false "color") (given (rule every (normal "color" "red" ∷ []) ∷ rule (pseudo "lively") (normal "color" "blue" ∷ []) ∷ [])) ≡ Some (codes "red") }
+    ensures with_all_its_list { winner (asked false "color") (given (rule every (normal "color" "red" ∷ []) ∷ inside_lists ((one (kind "p") ∷ one (pseudo "lively") ∷ []) ∷ []) (normal "color" "blue" ∷ []) ∷ [])) ≡ Some (codes "red") }
+    ensures with_its_nested_rules { winner (asked false "color") (given (rule every (normal "color" "red" ∷ []) ∷ inside_lists ((one (kind "main") ∷ one (pseudo "lively") ∷ []) ∷ (one (kind "p") ∷ []) ∷ []) (normal "color" "blue" ∷ []) ∷ [])) ≡ Some (codes "red") }
+    ensures member_of_is_alone { winner (asked false "color") (given (rule every (normal "color" "red" ∷ []) ∷ rule (simply (simple.Is (one (kind "p") ∷ one (pseudo "lively") ∷ []))) (normal "color" "blue" ∷ []) ∷ [])) ≡ Some (codes "blue") }
+    ensures important_too { winner (asked true "color") (given (rule (pseudo "lively") (important "color" "blue" ∷ []) ∷ [])) ≡ None }
+    ensures of_a_pseudo_element { winner (asked_of (pseudo_element "before" 3) false "color") (given (rule (ended (kind "p") "before" (codes "hover" ∷ [])) (normal "color" "red" ∷ []) ∷ rule (kind "p") (normal "color" "blue" ∷ []) ∷ [])) ≡ Some (codes "red") }
+    ensures unknown_pseudo_element { winner (asked_of (pseudo_element "marker" 3) false "color") (given (rule (ended every "marker" []) (normal "color" "red" ∷ []) ∷ [])) ≡ None }
+{}
+
 /// Layers count before specificity, and among important declarations the other way round (CSS Cascading 5, section 6.4).
 pub fn layers_win()
-    ensures higher { winning false mentions (seen (layer "base") (specificity 0 0 1) "red" ∷ seen (layer "reset") (specificity 1 0 0) "blue" ∷ []) ≡ Some (seen (layer "base") (specificity 0 0 1) "red") }
-    ensures lower_important { winning true mentions (seen (layer "base") (specificity 0 0 1) "red" ∷ seen (layer "reset") (specificity 1 0 0) "blue" ∷ []) ≡ Some (seen (layer "reset") (specificity 1 0 0) "blue") }
-    ensures without_a_layer { winning false mentions (seen [] (specificity 0 0 1) "red" ∷ seen (layer "base") (specificity 1 0 0) "blue" ∷ []) ≡ Some (seen [] (specificity 0 0 1) "red") }
-    ensures later_of_a_tie { winning false mentions (seen (layer "base") (specificity 0 1 0) "red" ∷ seen (layer "base") (specificity 0 1 0) "blue" ∷ []) ≡ Some (seen (layer "base") (specificity 0 1 0) "blue") }
-    ensures later_of_a_tie_important { winning true mentions (seen (layer "base") (specificity 0 1 0) "red" ∷ seen (layer "base") (specificity 0 1 0) "blue" ∷ []) ≡ Some (seen (layer "base") (specificity 0 1 0) "blue") }
-    ensures more_specific_important { winning true mentions (seen (layer "base") (specificity 0 1 0) "red" ∷ seen (layer "base") (specificity 0 0 1) "blue" ∷ []) ≡ Some (seen (layer "base") (specificity 0 1 0) "red") }
-    ensures without_a_layer_important { winning true mentions (seen (layer "base") (specificity 0 0 1) "red" ∷ seen [] (specificity 1 0 0) "blue" ∷ []) ≡ Some (seen (layer "base") (specificity 0 0 1) "red") }
-    ensures outer { winning false mentions (seen (layer "base") (specificity 0 0 1) "red" ∷ seen (sublayer "base" "theme") (specificity 1 0 0) "blue" ∷ []) ≡ Some (seen (layer "base") (specificity 0 0 1) "red") }
-    ensures inner_important { winning true mentions (seen (sublayer "base" "theme") (specificity 0 0 1) "red" ∷ seen (layer "base") (specificity 1 0 0) "blue" ∷ []) ≡ Some (seen (sublayer "base" "theme") (specificity 0 0 1) "red") }
+    ensures higher { winning false mentions (seen (layer "base") (triple 0 0 1) "red" ∷ seen (layer "reset") (triple 1 0 0) "blue" ∷ []) ≡ Some (seen (layer "base") (triple 0 0 1) "red") }
+    ensures lower_important { winning true mentions (seen (layer "base") (triple 0 0 1) "red" ∷ seen (layer "reset") (triple 1 0 0) "blue" ∷ []) ≡ Some (seen (layer "reset") (triple 1 0 0) "blue") }
+    ensures without_a_layer { winning false mentions (seen [] (triple 0 0 1) "red" ∷ seen (layer "base") (triple 1 0 0) "blue" ∷ []) ≡ Some (seen [] (triple 0 0 1) "red") }
+    ensures later_of_a_tie { winning false mentions (seen (layer "base") (triple 0 1 0) "red" ∷ seen (layer "base") (triple 0 1 0) "blue" ∷ []) ≡ Some (seen (layer "base") (triple 0 1 0) "blue") }
+    ensures later_of_a_tie_important { winning true mentions (seen (layer "base") (triple 0 1 0) "red" ∷ seen (layer "base") (triple 0 1 0) "blue" ∷ []) ≡ Some (seen (layer "base") (triple 0 1 0) "blue") }
+    ensures more_specific_important { winning true mentions (seen (layer "base") (triple 0 1 0) "red" ∷ seen (layer "base") (triple 0 0 1) "blue" ∷ []) ≡ Some (seen (layer "base") (triple 0 1 0) "red") }
+    ensures without_a_layer_important { winning true mentions (seen (layer "base") (triple 0 0 1) "red" ∷ seen [] (triple 1 0 0) "blue" ∷ []) ≡ Some (seen (layer "base") (triple 0 0 1) "red") }
+    ensures outer { winning false mentions (seen (layer "base") (triple 0 0 1) "red" ∷ seen (sublayer "base" "theme") (triple 1 0 0) "blue" ∷ []) ≡ Some (seen (layer "base") (triple 0 0 1) "red") }
+    ensures inner_important { winning true mentions (seen (sublayer "base" "theme") (triple 0 0 1) "red" ∷ seen (layer "base") (triple 1 0 0) "blue" ∷ []) ≡ Some (seen (sublayer "base" "theme") (triple 0 0 1) "red") }
     ensures none { winning false mentions [] ≡ None }
     ensures by_the_order_of_mention { winner (asked false "color") (layered (layer "b" ∷ layer "a" ∷ []) (in_layer (layer "a") (normal "color" "red") ∷ in_layer (layer "b") (normal "color" "blue") ∷ [])) ≡ Some (codes "red") }
     ensures by_the_order_of_mention_important { winner (asked true "color") (layered (layer "b" ∷ layer "a" ∷ []) (in_layer (layer "a") (important "color" "red") ∷ in_layer (layer "b") (important "color" "blue") ∷ [])) ≡ Some (codes "blue") }

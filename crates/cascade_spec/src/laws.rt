@@ -1,17 +1,20 @@
 //! Laws about the definitions of this crate, each the contract of a function that does nothing.
 
-ghost use Rattle.std.specs.Prelude.{◌≡◌, ◌++◌, [], ℕ, List, Bool, Some, flat_map};
+ghost use Rattle.std.specs.Prelude.{◌≡◌, ◌++◌, [], ℕ, List, Bool, IsTrue, Some, flat_map, map};
 ghost use Rattle.std.specs.List.{AllByRecursion};
-ghost use Rattle.css_rules.specs.BareSelectors.{BareSelector};
 ghost use Rattle.css_rules.specs.Contexts.{LayerPath, Context, outside, under_list};
 ghost use Rattle.css_rules.specs.Statements.{Statement, say_all, statements_of};
+ghost use Rattle.css_rules.specs.Printable.{all_whole};
 ghost use Rattle.css_rules.specs.SheetTexts.{sheet_text};
-ghost use Rattle.css_rules.specs.declared.selector.Combinator.TheVariants.{Descendant, Child, Next, Later};
+ghost use Rattle.selector_tree.specs.declared.selector.Combinator.TheVariants.{Descendant, Child, Next, Later};
 ghost use Rattle.css_rules.specs.declared.sheet.Item.{Item};
 ghost use Rattle.css_rules.specs.declared.sheet.Sheet.{Sheet};
+ghost use Rattle.selector_tree.specs.Erased.{erased};
+ghost use Rattle.selector_tree.specs.declared.selector.Selector.{Selector};
 ghost use Rattle.cascade_spec.specs.declared.document.Document.{Document};
 ghost use Rattle.cascade_spec.specs.Worlds.{World};
-ghost use Rattle.cascade_spec.specs.Matching.{top, within, around_all, parent_of, is_related};
+ghost use Rattle.cascade_spec.specs.Elements.{parent_of, is_related};
+ghost use Rattle.cascade_spec.specs.Surroundings.{Around, top, within, around_all};
 ghost use Rattle.cascade_spec.specs.Relations.{IsReached, IsPrevious, previous_of, ParentsComeFirst, HoldsOfOne};
 ghost use Rattle.cascade_spec.specs.LayerOrder.{AreOrdered};
 ghost use Rattle.cascade_spec.specs.Standings.{standing_of};
@@ -20,15 +23,17 @@ ghost use Rattle.cascade_spec.specs.Contents.{IsKept, SameWinners};
 ghost use Rattle.cascade_spec.specs.Showing.{showing, joined};
 ghost use Rattle.cascade_spec.specs.Readings.{HasSheet, IsReadAgain, KeepsWinners};
 
-/// The text that the sheet of a text prints as reads as that sheet, and so keeps its winners, and a text reads as one sheet,
-/// places aside.
+/// The text that the sheet of a text prints as reads as that sheet, and so keeps its winners, where all is kept of its
+/// selectors: a sheet with a function of which nothing is kept, or a flag of an attribute selector, has no text that says the
+/// same. A text reads as one sheet, places aside.
 pub fn sheets_keep_winners()
-    ensures again { (source : List ℕ) (sheet : Sheet) → HasSheet source sheet → IsReadAgain source (sheet_text sheet) }
-    ensures kept { (source : List ℕ) (sheet : Sheet) → HasSheet source sheet → KeepsWinners source (sheet_text sheet) }
+    ensures again { (source : List ℕ) (sheet : Sheet) → HasSheet source sheet → IsTrue (all_whole sheet) → IsReadAgain source (sheet_text sheet) }
+    ensures kept { (source : List ℕ) (sheet : Sheet) → HasSheet source sheet → IsTrue (all_whole sheet) → KeepsWinners source (sheet_text sheet) }
     ensures one { (text : List ℕ) (a b : Sheet) → HasSheet text a → HasSheet text b → statements_of a ≡ statements_of b }
 {
     css_tokens::one_reading();
     css_tokens::names_spell();
+    css_tokens::strings_spell();
     css_rules::sheets_are_printable();
     css_rules::values_stand();
     css_rules::sheets_are_read_again();
@@ -60,7 +65,13 @@ pub fn combinators_relate()
 /// round the rule, however many lists that is, and in the same layer (CSS Nesting 1, section 3).
 pub fn surroundings_stand()
     ensures none { (world : World) → standing_of world outside ≡ record { layer = []; around = top } }
-    ensures one_more { (world : World) (list : List BareSelector) (c : Context) → standing_of world (under_list list c) ≡ record { layer = c.layer; around = within world (around_all world c.chain) list } }
+    ensures one_more { (world : World) (list : List Selector) (c : Context) → standing_of world (under_list list c) ≡ record { layer = c.layer; around = within world (around_all world c.chain) list } }
+{}
+
+/// Selector lists that differ in places alone are the same round a rule: they match the same subjects, are as specific for
+/// each of them, and are dropped by the same browsers (Selectors 4, sections 3.9 and 17).
+pub fn places_do_not_count()
+    ensures { (world : World) (around : Around) (ss ts : List Selector) → map erased ss ≡ map erased ts → within world around ss ≡ within world around ts }
 {}
 
 /// Layers have the order of the standard, whoever made the list of mentions (CSS Cascading 5, section 6.4).

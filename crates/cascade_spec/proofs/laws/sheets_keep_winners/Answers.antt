@@ -10,7 +10,7 @@ returns c =
     let laws : SheetLaws = record {
       said = c.runs_say.ensures;
       one = c.one_reading.ensures.one;
-      names = record { decoded = c.names_spell.ensures.decoded; hash_decoded = c.names_spell.ensures.hash_decoded; first = c.names_spell.ensures.first };
+      names = record { decoded = c.names_spell.ensures.decoded; hash_decoded = c.names_spell.ensures.hash_decoded; string_decoded = c.strings_spell.ensures.decoded; first = c.names_spell.ensures.first };
       flat = c.sheets_are_printable.ensures.flat;
       printable = c.sheets_are_printable.ensures.printable;
       standing = c.values_stand.ensures;
@@ -21,6 +21,6 @@ returns c =
     } in
     record {
       again = reads-again laws;
-      kept = λ source sheet has. again-keeps source (sheet_text sheet) (reads-again laws source sheet has);
+      kept = λ source sheet has whole. again-keeps source (sheet_text sheet) (reads-again laws source sheet has whole);
       one = λ text a b p q. laws.said a ∙ ap (flat_map run_says) (one-sheet laws text a b p q) ∙ sym (laws.said b);
     }

@@ -1,6 +1,6 @@
 use Rattle.std.proofs.Common.{[], ◌∷◌, refl, ap}
 use Rattle.std.proofs.lemmas.List.Sums.{fold-append}
-use Rattle.cascade_spec.specs.Matching.{top, within}
+use Rattle.cascade_spec.specs.Surroundings.{top, within}
 use Rattle.cascade_spec.proofs.laws.surroundings_stand.Goals as goal
 
 pub returns : goal.returns
