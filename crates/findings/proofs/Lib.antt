@@ -1,0 +1,4 @@
+pub mod Opened
+pub mod Finding
+pub mod Whole
+pub mod Computing

@@ -1,0 +1,173 @@
+-- What cannot be written has a finding: so of selectors without findings all is kept.
+use Rattle.std.specs.Prelude.{ℕ, List, [], ◌∷◌, ◌++◌, map, flat_map, Bool, true, false, not, ◌&&◌, Option, Some, None, ◌≡◌, if◌then◌else◌}
+use Rattle.std.specs.List.{AllByRecursion, list_all, filter_map}
+use Rattle.std.proofs.Common.{refl, sym, subst, ◌∙◌, ap}
+use Rattle.std.proofs.lemmas.List.Elements.{filter_map-append}
+use Rattle.std.proofs.lemmas.List.Folds.{list_all-append}
+use Rattle.selector_tree.specs.declared.selector.Attribute as attribute
+use Rattle.selector_tree.specs.declared.selector.Simple.{Simple}
+use Rattle.selector_tree.specs.declared.selector.Simple as simple
+use Rattle.selector_tree.specs.declared.selector.Simple.TheVariants.{outs-Attribute, outs-Foreign}
+use Rattle.selector_tree.specs.declared.selector.Compound as compound
+use Rattle.selector_tree.specs.declared.selector.Link as link
+use Rattle.selector_tree.specs.declared.selector.Part as part
+use Rattle.selector_tree.specs.declared.selector.Selector as selector
+use Rattle.selector_tree.specs.BareFold.{placed}
+use Rattle.selector_tree.specs.Erased.{erased}
+use Rattle.selector_tree.specs.SameErased.{same-erased}
+use Rattle.selector_tree.specs.PartsFound.{parts-Not, parts-Is, parts-Where, parts-Local, parts-Global, parts-Compound, parts-Selector}
+use Rattle.selector_tree.specs.PartsWithin.{simple_parts, compound_parts, selector_parts, list_parts}
+use Rattle.selector_tree.specs.ReadableSelectors.{writable, is_writable_simple, is_writable_compound, is_writable_selector, is_writable_list}
+use Rattle.selector_tree.specs.SelectorFold.{made_part, made_link, simple_of, compound_of, folded-Class, folded-Id, folded-Attribute, folded-Pseudo, folded-Not, folded-Is, folded-Where, folded-Parent, folded-Local, folded-Global, folded-Foreign, folded-Compound, folded-Selector}
+use Rattle.selector_tree.specs.SelectorInduction.{Cases, by_lists}
+use Rattle.css_rules.specs.declared.sheet.Declaration.{Declaration}
+use Rattle.css_rules.specs.declared.sheet.Item.{Item}
+use Rattle.css_rules.specs.declared.sheet.Item as item
+use Rattle.css_rules.specs.declared.sheet.Style as style
+use Rattle.css_rules.specs.declared.sheet.Sheet.{Sheet}
+use Rattle.css_rules.specs.Contexts.{Context, outside, under_list}
+use Rattle.css_rules.specs.ItemInduction as items
+use Rattle.css_rules.specs.Printable.{is_whole}
+use Rattle.css_rules.specs.Runs.{Run, runs_within, runs_of, runs_within-Plain, runs_within-Style}
+use Rattle.cascade_spec.specs.declared.finding.Code.{Code}
+use Rattle.cascade_spec.specs.declared.finding.Finding.{Finding}
+use Rattle.findings.specs.Constructs.{code_of, found_at, part_finding, part_findings, item_parts, items_parts, sheet_findings, parts-Style}
+
+-- Lists.
+
+front-none : {X : Type 0} (xs ys : List X) → xs ++ ys ≡ [] → xs ≡ []
+front-none [] ys none = refl
+front-none (x ∷ xs) ys none = absurd (cc none)
+
+back-none : {X : Type 0} (xs ys : List X) → xs ++ ys ≡ [] → ys ≡ []
+back-none [] ys none = none
+back-none (x ∷ xs) ys none = absurd (cc none)
+
+both : (a b : Bool) → a ≡ true → b ≡ true → (a && b) ≡ true
+both a b h k = ap (λ c. c && b) h ∙ k
+
+module _ (file : ℕ) where
+  -- nothing stands in these parts
+  abbrev Bare : List part.Part → Type 0
+  Bare ps = part_findings file ps ≡ []
+
+  bare-front : (ps qs : List part.Part) → Bare (ps ++ qs) → Bare ps
+  bare-front ps qs none = front-none (part_findings file ps) (part_findings file qs) (sym (filter_map-append (part_finding file) ps qs) ∙ none)
+
+  bare-back : (ps qs : List part.Part) → Bare (ps ++ qs) → Bare qs
+  bare-back ps qs none = back-none (part_findings file ps) (part_findings file qs) (sym (filter_map-append (part_finding file) ps qs) ∙ none)
+
+  -- a part in a list in which nothing stands has no code
+  uncoded : (x : Simple) (at : ℕ) (ps : List part.Part) → Bare (part.Placed x at ∷ ps) → code_of x ≡ None
+  uncoded x at ps none = by (code_of x) refl
+    where
+      by : (o : Option Code) → code_of x ≡ o → o ≡ None
+      by None is = refl
+      by (Some code) is = absurd (cc (none, is))
+
+  -- Selectors.
+
+  abbrev P : Simple → Type 0
+  P x = code_of x ≡ None → Bare (simple_parts x) → is_writable_simple x ≡ true
+
+  abbrev Q : compound.Compound → Type 0
+  Q k = Bare (compound_parts k) → is_writable_compound k ≡ true
+
+  abbrev R : selector.Selector → Type 0
+  R s = Bare (selector_parts s) → is_writable_selector s ≡ true
+
+  members : (ss : List selector.Selector) → AllByRecursion R ss → Bare (list_parts ss) → list_all (λ s. s) (map is_writable_selector ss) ≡ true
+  members [] each none = refl
+  members (s ∷ ss) each none =
+      both (is_writable_selector s) (list_all (λ s. s) (map is_writable_selector ss))
+      (each.0 (bare-front (selector_parts s) (list_parts ss) none))
+      (members ss each.1 (bare-back (selector_parts s) (list_parts ss) none))
+
+  parts : (ps : List part.Part) → AllByRecursion (λ p. P (simple_of p)) ps → Bare (flat_map (λ p. p ∷ simple_parts (simple_of p)) ps) → list_all (λ p. p) (map (λ p. p.0) (map (made_part (placed writable)) ps)) ≡ true
+  parts [] each none = refl
+  parts (part.Placed x at ∷ ps) each none =
+      let rest = flat_map (λ p. p ∷ simple_parts (simple_of p)) ps in
+      let here = bare-front (part.Placed x at ∷ simple_parts x) rest none in
+      both (is_writable_simple x) (list_all (λ p. p) (map (λ p. p.0) (map (made_part (placed writable)) ps)))
+      (each.0 (uncoded x at (simple_parts x) here) (bare-back (part.Placed x at ∷ []) (simple_parts x) here))
+      (parts ps each.1 (bare-back (part.Placed x at ∷ simple_parts x) rest none))
+
+  links : (ls : List link.Link) → AllByRecursion (λ l. Q (compound_of l)) ls → Bare (flat_map (λ l. compound_parts (compound_of l)) ls) → list_all (λ l. l.1) (map (made_link (placed writable)) ls) ≡ true
+  links [] each none = refl
+  links (l ∷ ls) each none =
+      let rest = flat_map (λ l. compound_parts (compound_of l)) ls in
+      both (is_writable_compound (compound_of l)) (list_all (λ l. l.1) (map (made_link (placed writable)) ls))
+      (each.0 (bare-front (compound_parts (compound_of l)) rest none))
+      (links ls each.1 (bare-back (compound_parts (compound_of l)) rest none))
+
+  unflagged : (a : attribute.Attribute) → code_of (simple.Attribute a) ≡ None → not a.flag ≡ true
+  unflagged a none = by a.flag refl
+    where
+      by : (b : Bool) → a.flag ≡ b → not b ≡ true
+      by false is = refl
+      by true is = absurd (cc (none, outs-Attribute a, is))
+
+  cases : Cases P Q R
+  cases = record {
+    class = λ n code none. folded-Class (placed writable) n;
+    id = λ n code none. folded-Id (placed writable) n;
+    attribute = λ a code none. folded-Attribute (placed writable) a ∙ unflagged a code;
+    pseudo = λ n code none. folded-Pseudo (placed writable) n;
+    not_of = λ ss each code none. folded-Not (placed writable) ss ∙ members ss each (subst Bare (parts-Not ss) none);
+    is_of = λ ss each code none. folded-Is (placed writable) ss ∙ members ss each (subst Bare (parts-Is ss) none);
+    where_of = λ ss each code none. folded-Where (placed writable) ss ∙ members ss each (subst Bare (parts-Where ss) none);
+    parent = λ code none. folded-Parent (placed writable);
+    local = λ k same code none. folded-Local (placed writable) k ∙ same (subst Bare (parts-Local k) none);
+    global = λ k same code none. folded-Global (placed writable) k ∙ same (subst Bare (parts-Global k) none);
+    foreign = λ code none. absurd (cc (code, outs-Foreign));
+    compound = λ k each none. folded-Compound (placed writable) k ∙ parts k.parts each (subst Bare (parts-Compound k) none);
+    selector = λ s first each none.
+        folded-Selector (placed writable) s
+        ∙ both (is_writable_compound s.first) (list_all (λ l. l.1) (map (made_link (placed writable)) s.rest))
+        (first (bare-front (compound_parts s.first) (flat_map (λ l. compound_parts (compound_of l)) s.rest) (subst Bare (parts-Selector s) none)))
+        (links s.rest each (bare-back (compound_parts s.first) (flat_map (λ l. compound_parts (compound_of l)) s.rest) (subst Bare (parts-Selector s) none)));
+  }
+
+  -- a list in which nothing stands, with its places at 0, can be written
+  list-whole : (ss : List selector.Selector) → AllByRecursion R ss → Bare (list_parts ss) → is_writable_list (map erased ss) ≡ true
+  list-whole [] each none = refl
+  list-whole (s ∷ ss) each none =
+      both (is_writable_selector (erased s)) (is_writable_list (map erased ss))
+      (same-erased writable s ∙ each.0 (bare-front (selector_parts s) (list_parts ss) none))
+      (list-whole ss each.1 (bare-back (selector_parts s) (list_parts ss) none))
+
+  -- Items.
+
+  abbrev Kept : Context → Type 0
+  Kept c = list_all is_writable_list c.chain ≡ true
+
+  abbrev Whole : Item → Type 0
+  Whole x = Bare (item_parts x) → (c : Context) → Kept c → list_all is_whole (runs_within x c) ≡ true
+
+  kept-under : (ss : List selector.Selector) (c : Context) → is_writable_list ss ≡ true → Kept c → Kept (under_list ss c)
+  kept-under ss c h kept = list_all-append is_writable_list c.chain (ss ∷ []) ∙ both (list_all is_writable_list c.chain) (list_all is_writable_list (ss ∷ [])) kept (both (is_writable_list ss) true h refl)
+
+  inner : (xs : List Item) → items.Each Whole xs → Bare (items_parts xs) → (c : Context) → Kept c → list_all is_whole (flat_map (λ x. runs_within x c) xs) ≡ true
+  inner [] each none c kept = refl
+  inner (x ∷ xs) each none c kept =
+      list_all-append is_whole (runs_within x c) (flat_map (λ x. runs_within x c) xs)
+      ∙ both (list_all is_whole (runs_within x c)) (list_all is_whole (flat_map (λ x. runs_within x c) xs))
+      (each.0 (bare-front (item_parts x) (items_parts xs) none) c kept)
+      (inner xs each.1 (bare-back (item_parts x) (items_parts xs) none) c kept)
+
+  item_cases : items.Cases Whole
+  item_cases = record {
+    plain = λ ds none c kept. ap (list_all is_whole) (runs_within-Plain ds c) ∙ both (list_all is_writable_list c.chain) true kept refl;
+    style = λ s each none c kept.
+        let bare = subst Bare (parts-Style s) none in
+        let listed = list-whole s.selectors (by_lists P Q R cases s.selectors) (bare-front (list_parts s.selectors) (items_parts s.items) bare) in
+        ap (list_all is_whole) (runs_within-Style s c)
+        ∙ inner s.items each (bare-back (list_parts s.selectors) (items_parts s.items) bare) (under_list (map erased s.selectors) c) (kept-under (map erased s.selectors) c listed kept);
+  }
+
+  each_item : (xs : List Item) → items.Each Whole xs
+  each_item [] = tt
+  each_item (x ∷ xs) = (items.by_items Whole item_cases x, each_item xs)
+
+pub sheet-whole : (file : ℕ) (sheet : Sheet) → sheet_findings file sheet ≡ [] → list_all is_whole (runs_of sheet) ≡ true
+sheet-whole file sheet none = inner file sheet.items (each_item file sheet.items) none outside refl

@@ -1,0 +1,5 @@
+use Rattle.findings.proofs.Finding.{none-stands}
+use Rattle.findings.proofs.first_law.the_first_finding_is_named.Goals as goal
+
+pub returns : goal.returns
+returns c = record { some = none-stands }

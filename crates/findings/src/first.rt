@@ -1,0 +1,50 @@
+ghost use Rattle.findings.specs.Firsts.{code_number, first_from, is_place, leads, sooner, stands_before};
+ghost use Rattle.std.specs.Option.{option_to_list};
+ghost use Rattle.std.specs.Prelude.{◌≡◌, None, Some};
+
+use cascade_spec::{Code, Finding, Place};
+
+/// The number of a code, by which findings at one place are ordered.
+fn code_number(code: Code) -> u8
+    ensures { result ≡ code_number code }
+{
+    match code {
+        Code::Syntax | Code::Depth | Code::Missing | Code::Unbuilt => 0,
+        Code::X6 => 6,
+        Code::X7 => 7,
+        Code::X11 => 11,
+        Code::X22 => 22,
+    }
+}
+
+fn stands_before(place: Place, other: Place) -> bool
+    ensures { result ≡ stands_before place other }
+{
+    place.file < other.file || (place.file == other.file && place.offset < other.offset)
+}
+
+fn is_place(place: Place, other: Place) -> bool
+    ensures { result ≡ is_place place other }
+{
+    place.file == other.file && place.offset == other.offset
+}
+
+/// Whether a finding comes first of two.
+fn leads(finding: Finding, other: Finding) -> bool
+    ensures { result ≡ leads finding other }
+{
+    stands_before(finding.place, other.place)
+        || (is_place(finding.place, other.place)
+            && code_number(finding.code) <= code_number(other.code))
+}
+
+/// Of what was found so far and one more the one that is named.
+pub fn sooner(best: Option<Finding>, found: Option<Finding>) -> Option<Finding>
+    ensures { result ≡ first_from best (option_to_list found) }
+{
+    match (best, found) {
+        (Some(first), Some(second)) => Some(if leads(first, second) { first } else { second }),
+        (None, found) => found,
+        (best, None) => best,
+    }
+}

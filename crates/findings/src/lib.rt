@@ -1,0 +1,14 @@
+//! What cannot be expressed for older browsers, and which of it is named.
+#![tactic(auto)]
+
+mod clean;
+pub mod examples;
+mod first;
+mod first_law;
+mod selector;
+mod sheet;
+mod whole_law;
+
+pub use clean::{Clean, check};
+pub use first_law::the_first_finding_is_named;
+pub use whole_law::clean_sheets_are_whole;
