@@ -1,0 +1,17 @@
+use Rattle.std.proofs.Common.{◌≡◌, take}
+use Rattle.std.specs.List.{list_all}
+use Rattle.std.specs.Prelude.{◌∷◌, flat_map}
+use Rattle.selector_tree.specs.PartsWithin.{compound_parts, selector_parts, simple_parts}
+use Rattle.selector_tree.specs.SelectorFold.{compound_of, simple_of}
+use Rattle.target_check.specs.Targets.{is_old_part}
+use Rattle.target_check.proofs.selector.+looks.Given as goal
+
+-- whether older browsers read what was looked at so far
+abbrev pub invariant-in_list-loop-selector : goal.invariant-in_list-loop-selector
+invariant-in_list-loop-selector l = l.old ≡ list_all is_old_part (flat_map selector_parts (take l.selector-index l.list))
+
+abbrev pub invariant-in_links-loop-link : goal.invariant-in_links-loop-link
+invariant-in_links-loop-link l = l.old ≡ list_all is_old_part (flat_map (λ x. compound_parts (compound_of x)) (take l.link-index l.links))
+
+abbrev pub invariant-in_parts-loop-part : goal.invariant-in_parts-loop-part
+invariant-in_parts-loop-part l = l.old ≡ list_all is_old_part (flat_map (λ p. p ∷ simple_parts (simple_of p)) (take l.part-index l.parts))

@@ -1,0 +1,19 @@
+-- Rules and sheets for the worked examples.
+use Rattle.std.specs.Prelude.{List, [], ◌∷◌}
+use Rattle.css_rules.specs.declared.sheet.Declaration.{Declaration}
+use Rattle.css_rules.specs.declared.sheet.Item as item
+use Rattle.css_rules.specs.declared.sheet.Sheet.{Sheet}
+use Rattle.css_rules.specs.declared.sheet.Style as style
+use Rattle.selector_tree.specs.declared.selector.Selector.{Selector}
+
+-- a rule of these selectors with one run of declarations
+abbrev pub rule_of : List Selector → List Declaration → style.Style
+rule_of selectors declarations = record { selectors = selectors; items = item.Plain declarations ∷ []; at = 0 }
+
+-- a rule of these selectors with this rule in it
+abbrev pub nested_in : List Selector → style.Style → style.Style
+nested_in selectors inner = record { selectors = selectors; items = item.Style inner ∷ []; at = 0 }
+
+-- a sheet of this rule alone
+abbrev pub sheet_of_rule : style.Style → Sheet
+sheet_of_rule rule = record { items = item.Style rule ∷ [] }

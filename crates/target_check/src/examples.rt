@@ -1,0 +1,36 @@
+//! Worked examples of the definitions of this crate, each the contract of a function that does nothing.
+
+ghost use Rattle.std.specs.Prelude.{◌≡◌, [], ◌∷◌, false, true};
+ghost use Rattle.css_rules.specs.Samples.{unmarked};
+ghost use Rattle.selector_tree.specs.Samples.{attribute, class, flagged, one, only, part_at, pseudo, typed, untyped};
+ghost use Rattle.selector_tree.specs.declared.selector.Simple as simple;
+ghost use Rattle.selector_tree.specs.declared.selector.Test.TheVariants.{Has};
+ghost use Rattle.target_check.specs.Samples.{nested_in, rule_of, sheet_of_rule};
+ghost use Rattle.target_check.specs.Targets.{is_old_selector, is_old_simple, is_target};
+
+/// Which simple selectors older browsers read.
+pub fn simple_selectors()
+    ensures class_name { is_old_simple (class "a") ≡ true }
+    ensures pseudo_class { is_old_simple (pseudo "focus-visible") ≡ true }
+    ensures attribute_alone { is_old_simple (simple.Attribute (attribute "a" Has "")) ≡ true }
+    ensures flag { is_old_simple (simple.Attribute (flagged "a" Has "")) ≡ false }
+    ensures not_of_a_class { is_old_simple (simple.Not (only (class "a") ∷ [])) ≡ true }
+    ensures not_of_two { is_old_simple (simple.Not (only (class "a") ∷ only (class "b") ∷ [])) ≡ false }
+    ensures not_of_a_local_class { is_old_simple (simple.Not (only (simple.Local (untyped (part_at 0 (class "a") ∷ []))) ∷ [])) ≡ false }
+    ensures is_of_one { is_old_simple (simple.Is (only (class "a") ∷ [])) ≡ false }
+    ensures where_of_one { is_old_simple (simple.Where (only (class "a") ∷ [])) ≡ false }
+    ensures parent { is_old_simple simple.Parent ≡ false }
+    ensures local { is_old_simple (simple.Local (typed "a" [])) ≡ false }
+    ensures global { is_old_simple (simple.Global (typed "a" [])) ≡ false }
+    ensures foreign { is_old_simple simple.Foreign ≡ false }
+    ensures flag_within { is_old_selector (only (simple.Not (only (simple.Attribute (flagged "a" Has "")) ∷ []))) ≡ false }
+{}
+
+/// Which sheets are target sheets.
+pub fn sheets()
+    ensures rule { is_target (sheet_of_rule (rule_of (only (class "a") ∷ []) (unmarked 0 "b" [] ∷ []))) ≡ true }
+    ensures younger_selector { is_target (sheet_of_rule (rule_of (only (class "a") ∷ only simple.Foreign ∷ []) (unmarked 0 "b" [] ∷ []))) ≡ false }
+    ensures empty_rule { is_target (sheet_of_rule (rule_of (only (class "a") ∷ []) [])) ≡ false }
+    ensures composes { is_target (sheet_of_rule (rule_of (only (class "a") ∷ []) (unmarked 0 "composes" [] ∷ []))) ≡ false }
+    ensures nested_rule { is_target (sheet_of_rule (nested_in (only (class "a") ∷ []) (rule_of (one (typed "b" []) ∷ []) (unmarked 0 "c" [] ∷ [])))) ≡ false }
+{}
