@@ -1,5 +1,5 @@
 -- Over all words and files there is one answer that stands first.
-use Rattle.std.proofs.Common.{◌≡◌, ℕ, ◌+◌, List, [], ◌∷◌, Option, Some, None, MatchOption, is_none, unwrap_or, if◌then◌else◌, IsTrue, Bool, true, false, length, map, refl, ap, sym, ◌∙◌, ◌⊎◌, inl, inr, subst, arith, nat_lt}
+use Rattle.std.proofs.Common.{◌≡◌, ℕ, ◌+◌, List, [], ◌∷◌, Option, Some, None, MatchOption, is_none, unwrap_or, if◌then◌else◌, IsTrue, Bool, true, false, length, map, refl, ap, sym, ◌∙◌, ◌⊎◌, inl, inr, subst, option_map, arith, nat_lt}
 use Rattle.css_outside.specs.Names.{Names}
 use Rattle.css_tokens.specs.declared.component.Component.{Component}
 use Rattle.css_tokens.specs.declared.pairing.ComponentFault.{ComponentFault}
@@ -12,13 +12,16 @@ use Rattle.css_rules.specs.declared.refusal.Refusal.{Refusal}
 use Rattle.css_rules.specs.declared.refusal.Cause.{Cause}
 use Rattle.css_rules.specs.declared.refusal.Cause.TheVariants as causes
 use Rattle.css_rules.specs.Refusals.{first_refusal, sooner_of, sooner}
-use Rattle.css_rules.specs.Sheets.{sheet_refusals}
+use Rattle.css_rules.specs.Sheets.{sheet_of, sheet_refusals}
+use Rattle.css_rules.specs.declared.sheet.Sheet.{Sheet}
+use Rattle.findings.specs.Constructs.{sheet_findings}
+use Rattle.findings.specs.Firsts.{first_finding}
 use Rattle.cascade_spec.specs.declared.finding.Code.{Code}
 use Rattle.cascade_spec.specs.declared.finding.Code.TheVariants.{Syntax, Depth, Missing, Unbuilt}
 use Rattle.cascade_spec.specs.declared.finding.Finding.{Finding}
 use Rattle.cascade_spec.specs.declared.finding.LimitKind.TheVariants.{L2}
 use Rattle.csslower.specs.Answers.{IsLong, IsFirst, IsFine, IsFirstOfSources, First, HasFirst}
-use Rattle.csslower.specs.Findings.{HasTokens, HasComponents, IsAccepted, HasFinding}
+use Rattle.csslower.specs.Findings.{HasTokens, HasComponents, SpellsSheet, code_and_offset, IsAccepted, HasFinding}
 use Rattle.csslower.specs.Words.{entry_of, is_scoped}
 use Rattle.csslower.specs.declared.status.Status.{Status}
 use Rattle.csslower.specs.declared.status.Status.TheVariants.{Done, Refused, Usage, ReadFault, WriteFault, Memory, Limit}
@@ -29,6 +32,8 @@ pub record AnswerLaws : Type 0 where
   pub read : (t : List ℕ) → ((ws : List Word) × Reads t ws) ⊎ ((o : ℕ) × StopsAt t o)
   pub paired : (ts : List Piece) (end : ℕ) → IsPaired ts ⊎ ((f : ComponentFault) × IsBracketFault ts end f)
   pub components : (ts : List Piece) → IsPaired ts → (cs : List Component) × (pieces_all cs ≡ ts) × IsTrue (all_formed cs)
+  pub readable : (cs : List Component) → sheet_of cs ≡ None → sheet_refusals cs ≡ [] → ⊥
+  pub named : (fs : List Finding) → first_finding fs ≡ None → fs ≡ []
   pub one : (bytes : List ℕ) (c d : Code) (o p : ℕ) → HasFinding bytes c o → HasFinding bytes d p → (c ≡ d) × (o ≡ p)
   pub either : (bytes : List ℕ) (c : Code) (o : ℕ) → IsAccepted bytes → HasFinding bytes c o → ⊥
 
@@ -94,14 +99,24 @@ FirstOfEntry entry files answer = MatchOption (if is_none entry then Some Words 
 module _ (laws : AnswerLaws) where
   refused_by : (bytes : List ℕ) (cs : List Component) → HasComponents bytes cs → (cause : Cause) (at : ℕ) → first_refusal (sheet_refusals cs) ≡ Some (record { at = at; cause = cause }) → HasSomeFinding bytes
   unfolding HasFinding
-  refused_by bytes cs has causes.Syntax at named = (Syntax, at, inr (inr (cs, has, named)))
-  refused_by bytes cs has causes.Unbuilt at named = (Unbuilt, at, inr (inr (cs, has, named)))
+  refused_by bytes cs has causes.Syntax at named = (Syntax, at, inr (inr (inl (cs, has, named))))
+  refused_by bytes cs has causes.Unbuilt at named = (Unbuilt, at, inr (inr (inl (cs, has, named))))
+
+  -- a sheet is clean, or a finding in it is named
+  of_sheet : (bytes : List ℕ) (sheet : Sheet) → SpellsSheet bytes sheet → (first : Option Finding) → first_finding (sheet_findings 0 sheet) ≡ first → IsAccepted bytes ⊎ HasSomeFinding bytes
+  unfolding IsAccepted HasFinding
+  of_sheet bytes sheet spells None is = inl (sheet, spells, laws.named (sheet_findings 0 sheet) is)
+  of_sheet bytes sheet spells (Some f) is = inr (f.code, f.place.offset, inr (inr (inr (sheet, spells, ap (option_map code_and_offset) is))))
+
+  -- components have a sheet, or it is refused
+  of_reading : (bytes : List ℕ) (cs : List Component) → HasComponents bytes cs → sheet_refusals cs ≡ [] → (o : Option Sheet) → sheet_of cs ≡ o → IsAccepted bytes ⊎ HasSomeFinding bytes
+  of_reading bytes cs has none None is = absurd (laws.readable cs is none)
+  of_reading bytes cs has none (Some sheet) is = of_sheet bytes sheet (cs, has, is) (first_finding (sheet_findings 0 sheet)) refl
 
   of_components : (bytes : List ℕ) (cs : List Component) → HasComponents bytes cs → IsAccepted bytes ⊎ HasSomeFinding bytes
-  unfolding IsAccepted
   of_components bytes cs has =
       elim (some_refusal (sheet_refusals cs)) [
-        | inl none ↦ inl (cs, has, none)
+        | inl none ↦ of_reading bytes cs has none (sheet_of cs) refl
         | inr some ↦ inr (refused_by bytes cs has some.0.cause some.0.at some.1)
       ]
 

@@ -1,5 +1,5 @@
 -- At most one finding stands against a text, and none where the text is accepted.
-use Rattle.std.proofs.Common.{◌≡◌, ℕ, ◌+◌, List, [], ◌∷◌, Option, Some, None, MatchOption, length, map, refl, ap, sym, ◌∙◌, inl, inr, subst, IsTrue}
+use Rattle.std.proofs.Common.{◌≡◌, ℕ, ◌+◌, List, [], ◌∷◌, Option, Some, None, MatchOption, length, map, refl, ap, sym, ◌∙◌, inl, inr, subst, option_map, IsTrue}
 use Rattle.css_tokens.specs.declared.component.Component.{Component}
 use Rattle.css_tokens.specs.declared.kind.Kind.{Kind}
 use Rattle.css_tokens.specs.declared.pairing.ComponentFault.{ComponentFault}
@@ -10,10 +10,13 @@ use Rattle.css_tokens.specs.Tokens.{Reads, IsPlaced, StopsAt, mark_length}
 use Rattle.css_tokens.specs.Trees.{pieces_all, all_formed}
 use Rattle.css_rules.specs.declared.refusal.Refusal.{Refusal}
 use Rattle.css_rules.specs.Refusals.{first_refusal, syntax, unbuilt}
-use Rattle.css_rules.specs.Sheets.{sheet_refusals}
+use Rattle.css_rules.specs.Sheets.{sheet_of, sheet_refusals}
+use Rattle.css_rules.specs.declared.sheet.Sheet.{Sheet}
+use Rattle.findings.specs.Constructs.{sheet_findings}
+use Rattle.findings.specs.Firsts.{first_finding}
 use Rattle.cascade_spec.specs.declared.finding.Code.{Code}
-use Rattle.cascade_spec.specs.declared.finding.Code.TheVariants.{Syntax, Depth, Missing, Unbuilt}
-use Rattle.csslower.specs.Findings.{HasTokens, HasComponents, IsUnpaired, IsRefused, HasFinding, IsAccepted}
+use Rattle.cascade_spec.specs.declared.finding.Code.TheVariants.{Syntax, Depth, Missing, Unbuilt, X6, X7, X11, X22}
+use Rattle.csslower.specs.Findings.{HasTokens, HasComponents, IsUnpaired, IsRefused, SpellsSheet, IsFound, code_and_offset, HasFinding, IsAccepted}
 
 -- what the laws of tokens, brackets and components say
 pub record ReadingLaws : Type 0 where
@@ -23,6 +26,7 @@ pub record ReadingLaws : Type 0 where
   pub brackets : (ts : List Piece) (end : ℕ) (f g : ComponentFault) → IsBracketFault ts end f → IsBracketFault ts end g → f ≡ g
   pub paired : (ts : List Piece) (end : ℕ) (f : ComponentFault) → IsPaired ts → IsBracketFault ts end f → ⊥
   pub pairing : (a b : List Component) → pieces_all a ≡ pieces_all b → IsTrue (all_formed a) → IsTrue (all_formed b) → a ≡ b
+  pub unrefused : (cs : List Component) (sheet : Sheet) → sheet_of cs ≡ Some sheet → sheet_refusals cs ≡ []
 
 abbrev piece : Kind → List ℕ → ℕ → Piece
 piece k t a = record { kind = k; text = t; at = a }
@@ -58,16 +62,35 @@ refused_one cs Syntax Unbuilt o p a b = absurd (let e = same_cause (syntax o) (u
 refused_one cs Unbuilt Syntax o p a b = absurd (let e = same_cause (unbuilt o) (syntax p) (sym a ∙ b) in cc e)
 refused_one cs Syntax Depth o p a b = absurd b
 refused_one cs Syntax Missing o p a b = absurd b
+refused_one cs Syntax X6 o p a b = absurd b
+refused_one cs Syntax X7 o p a b = absurd b
+refused_one cs Syntax X11 o p a b = absurd b
+refused_one cs Syntax X22 o p a b = absurd b
 refused_one cs Unbuilt Depth o p a b = absurd b
 refused_one cs Unbuilt Missing o p a b = absurd b
+refused_one cs Unbuilt X6 o p a b = absurd b
+refused_one cs Unbuilt X7 o p a b = absurd b
+refused_one cs Unbuilt X11 o p a b = absurd b
+refused_one cs Unbuilt X22 o p a b = absurd b
 refused_one cs Depth d o p a b = absurd a
 refused_one cs Missing d o p a b = absurd a
+refused_one cs X6 d o p a b = absurd a
+refused_one cs X7 d o p a b = absurd a
+refused_one cs X11 d o p a b = absurd a
+refused_one cs X22 d o p a b = absurd a
+
+same_pair : (x y : Code × ℕ) → Some x ≡ Some y → x ≡ y
+same_pair x y e = cc e
 
 refused_none : (cs : List Component) (c : Code) (o : ℕ) → sheet_refusals cs ≡ [] → IsRefused cs c o → ⊥
 refused_none cs Syntax o none a = let e = sym (ap first_refusal none) ∙ a in cc e
 refused_none cs Unbuilt o none a = let e = sym (ap first_refusal none) ∙ a in cc e
 refused_none cs Depth o none a = a
 refused_none cs Missing o none a = a
+refused_none cs X6 o none a = a
+refused_none cs X7 o none a = a
+refused_none cs X11 o none a = a
+refused_none cs X22 o none a = a
 
 module _ (laws : ReadingLaws) (bytes : List ℕ) where
   tokens_one : (a b : List Piece) → HasTokens bytes a → HasTokens bytes b → a ≡ b
@@ -89,34 +112,76 @@ module _ (laws : ReadingLaws) (bytes : List ℕ) where
   unpaired_one ts Depth Depth o p a b = (refl, (let e = same_fault ts (fault.Depth o) (fault.Depth p) a b in cc e))
   unpaired_one ts Syntax Missing o p a b = absurd b
   unpaired_one ts Syntax Unbuilt o p a b = absurd b
+  unpaired_one ts Syntax X6 o p a b = absurd b
+  unpaired_one ts Syntax X7 o p a b = absurd b
+  unpaired_one ts Syntax X11 o p a b = absurd b
+  unpaired_one ts Syntax X22 o p a b = absurd b
   unpaired_one ts Depth Missing o p a b = absurd b
   unpaired_one ts Depth Unbuilt o p a b = absurd b
+  unpaired_one ts Depth X6 o p a b = absurd b
+  unpaired_one ts Depth X7 o p a b = absurd b
+  unpaired_one ts Depth X11 o p a b = absurd b
+  unpaired_one ts Depth X22 o p a b = absurd b
   unpaired_one ts Missing d o p a b = absurd a
   unpaired_one ts Unbuilt d o p a b = absurd a
+  unpaired_one ts X6 d o p a b = absurd a
+  unpaired_one ts X7 d o p a b = absurd a
+  unpaired_one ts X11 d o p a b = absurd a
+  unpaired_one ts X22 d o p a b = absurd a
 
   unpaired_none : (ts : List Piece) (c : Code) (o : ℕ) → IsPaired ts → IsUnpaired ts (length bytes) c o → ⊥
   unpaired_none ts Syntax o p a = laws.paired ts (length bytes) (fault.Syntax o) p a
   unpaired_none ts Depth o p a = laws.paired ts (length bytes) (fault.Depth o) p a
   unpaired_none ts Missing o p a = a
   unpaired_none ts Unbuilt o p a = a
+  unpaired_none ts X6 o p a = a
+  unpaired_none ts X7 o p a = a
+  unpaired_none ts X11 o p a = a
+  unpaired_none ts X22 o p a = a
 
   fault_or_components : (ts : List Piece) (cs : List Component) (c : Code) (o : ℕ) → HasTokens bytes ts → IsUnpaired ts (length bytes) c o → HasComponents bytes cs → ⊥
   fault_or_components ts cs c o p unpaired q = unpaired_none (pieces_all cs) c o q.paired (subst (λ us. IsUnpaired us (length bytes) c o) (tokens_one ts (pieces_all cs) p q.tokens) unpaired)
+
+  -- a text has one sheet, and what is named in it is one
+  sheets_one : (a b : Sheet) → SpellsSheet bytes a → SpellsSheet bytes b → a ≡ b
+  sheets_one a b p q = let same = sym p.2 ∙ ap sheet_of (components_one p.0 q.0 p.1 q.1) ∙ q.2 in cc same
+
+  found_one : (a b : Sheet) (c d : Code) (o p : ℕ) → a ≡ b → IsFound a c o → IsFound b d p → IsSame c d o p
+  found_one a b c d o p same f g =
+      let pairs = same_pair (c, o) (d, p) (sym (subst (λ s. IsFound s c o) same f) ∙ g) in
+      (ap (λ (x : Code × ℕ). x.0) pairs, ap (λ (x : Code × ℕ). x.1) pairs)
+
+  found_none : (a b : Sheet) (c : Code) (o : ℕ) → a ≡ b → sheet_findings 0 a ≡ [] → IsFound b c o → ⊥
+  found_none a b c o same none f =
+      let nothing = sym (ap (λ fs. option_map code_and_offset (first_finding fs)) none) ∙ subst (λ s. IsFound s c o) (sym same) f in
+      cc nothing
+
+  refusal_or_sheet : (cs : List Component) (sheet : Sheet) (c : Code) (o : ℕ) → HasComponents bytes cs → IsRefused cs c o → SpellsSheet bytes sheet → ⊥
+  refusal_or_sheet cs sheet c o has refused spells =
+      refused_none spells.0 c o (laws.unrefused spells.0 sheet spells.2) (subst (λ ds. IsRefused ds c o) (components_one cs spells.0 has spells.1) refused)
 
   pub finding_one : (c d : Code) (o p : ℕ) → HasFinding bytes c o → HasFinding bytes d p → (c ≡ d) × (o ≡ p)
   unfolding HasFinding
   finding_one c d o p (inl a) (inl b) = (a.0 ∙ sym b.0, laws.place bytes o p a.1 b.1)
   finding_one c d o p (inl a) (inr (inl b)) = absurd (stop_none b.0 o b.1 a.1)
-  finding_one c d o p (inl a) (inr (inr b)) = absurd (stop_none (pieces_all b.0) o b.1.tokens a.1)
+  finding_one c d o p (inl a) (inr (inr (inl b))) = absurd (stop_none (pieces_all b.0) o b.1.tokens a.1)
+  finding_one c d o p (inl a) (inr (inr (inr b))) = absurd (stop_none (pieces_all b.1.0) o b.1.1.tokens a.1)
   finding_one c d o p (inr (inl a)) (inl b) = absurd (stop_none a.0 p a.1 b.1)
-  finding_one c d o p (inr (inr a)) (inl b) = absurd (stop_none (pieces_all a.0) p a.1.tokens b.1)
+  finding_one c d o p (inr (inr (inl a))) (inl b) = absurd (stop_none (pieces_all a.0) p a.1.tokens b.1)
+  finding_one c d o p (inr (inr (inr a))) (inl b) = absurd (stop_none (pieces_all a.1.0) p a.1.1.tokens b.1)
   finding_one c d o p (inr (inl a)) (inr (inl b)) = unpaired_one b.0 c d o p (subst (λ us. IsUnpaired us (length bytes) c o) (tokens_one a.0 b.0 a.1 b.1) a.2) b.2
-  finding_one c d o p (inr (inl a)) (inr (inr b)) = absurd (fault_or_components a.0 b.0 c o a.1 a.2 b.1)
-  finding_one c d o p (inr (inr a)) (inr (inl b)) = absurd (fault_or_components b.0 a.0 d p b.1 b.2 a.1)
-  finding_one c d o p (inr (inr a)) (inr (inr b)) = refused_one b.0 c d o p (subst (λ cs. IsRefused cs c o) (components_one a.0 b.0 a.1 b.1) a.2) b.2
+  finding_one c d o p (inr (inl a)) (inr (inr (inl b))) = absurd (fault_or_components a.0 b.0 c o a.1 a.2 b.1)
+  finding_one c d o p (inr (inl a)) (inr (inr (inr b))) = absurd (fault_or_components a.0 b.1.0 c o a.1 a.2 b.1.1)
+  finding_one c d o p (inr (inr (inl a))) (inr (inl b)) = absurd (fault_or_components b.0 a.0 d p b.1 b.2 a.1)
+  finding_one c d o p (inr (inr (inr a))) (inr (inl b)) = absurd (fault_or_components b.0 a.1.0 d p b.1 b.2 a.1.1)
+  finding_one c d o p (inr (inr (inl a))) (inr (inr (inl b))) = refused_one b.0 c d o p (subst (λ cs. IsRefused cs c o) (components_one a.0 b.0 a.1 b.1) a.2) b.2
+  finding_one c d o p (inr (inr (inl a))) (inr (inr (inr b))) = absurd (refusal_or_sheet a.0 b.0 c o a.1 a.2 b.1)
+  finding_one c d o p (inr (inr (inr a))) (inr (inr (inl b))) = absurd (refusal_or_sheet b.0 a.0 d p b.1 b.2 a.1)
+  finding_one c d o p (inr (inr (inr a))) (inr (inr (inr b))) = found_one a.0 b.0 c d o p (sheets_one a.0 b.0 a.1 b.1) a.2 b.2
 
   pub finding_none : (c : Code) (o : ℕ) → IsAccepted bytes → HasFinding bytes c o → ⊥
   unfolding HasFinding IsAccepted
-  finding_none c o r (inl a) = stop_none (pieces_all r.0) o r.1.tokens a.1
-  finding_none c o r (inr (inl a)) = fault_or_components a.0 r.0 c o a.1 a.2 r.1
-  finding_none c o r (inr (inr a)) = refused_none r.0 c o r.2 (subst (λ cs. IsRefused cs c o) (components_one a.0 r.0 a.1 r.1) a.2)
+  finding_none c o r (inl a) = stop_none (pieces_all r.1.0) o r.1.1.tokens a.1
+  finding_none c o r (inr (inl a)) = fault_or_components a.0 r.1.0 c o a.1 a.2 r.1.1
+  finding_none c o r (inr (inr (inl a))) = refusal_or_sheet a.0 r.0 c o a.1 a.2 r.1
+  finding_none c o r (inr (inr (inr a))) = found_none r.0 a.0 c o (sheets_one r.0 a.0 r.1 a.1) r.2 a.2

@@ -1,6 +1,7 @@
 -- What stands against a file's text. What comes first of these is named: where reading stops, a bracket that is not
--- paired, what the sheet is refused for.
+-- paired, what the sheet is refused for, what in it cannot be expressed.
 use Rattle.std.specs.Prelude.{ℕ, ◌≡◌, ◌⊎◌, List, [], length, map, IsTrue, Some}
+use Rattle.std.specs.Option.{option_map}
 use Rattle.css_tokens.specs.declared.component.Component.{Component}
 use Rattle.css_tokens.specs.declared.pairing.ComponentFault.TheVariants as fault
 use Rattle.css_tokens.specs.Pairing.{IsPaired, IsBracketFault}
@@ -8,9 +9,13 @@ use Rattle.css_tokens.specs.Piece.{Piece, word_of}
 use Rattle.css_tokens.specs.Tokens.{Reads, IsPlaced, StopsAt, mark_length}
 use Rattle.css_tokens.specs.Trees.{pieces_all, all_formed}
 use Rattle.css_rules.specs.Refusals.{first_refusal, syntax, unbuilt}
-use Rattle.css_rules.specs.Sheets.{sheet_refusals}
+use Rattle.css_rules.specs.Sheets.{sheet_of, sheet_refusals}
+use Rattle.css_rules.specs.declared.sheet.Sheet.{Sheet}
+use Rattle.findings.specs.Constructs.{sheet_findings}
+use Rattle.findings.specs.Firsts.{first_finding}
 use Rattle.cascade_spec.specs.declared.finding.Code.{Code}
-use Rattle.cascade_spec.specs.declared.finding.Code.TheVariants.{Syntax, Depth, Missing, Unbuilt}
+use Rattle.cascade_spec.specs.declared.finding.Finding.{Finding}
+use Rattle.cascade_spec.specs.declared.finding.Code.TheVariants.{Syntax, Depth, Missing, Unbuilt, X6, X7, X11, X22}
 
 -- the tokens of the text, each in its place, behind a byte order mark (CSS Syntax 3, section 4)
 pub record HasTokens (bytes : List ℕ) (tokens : List Piece) : Type 0 where
@@ -33,6 +38,10 @@ IsUnpaired tokens end Syntax offset = IsBracketFault tokens end (fault.Syntax of
 IsUnpaired tokens end Depth offset = IsBracketFault tokens end (fault.Depth offset)
 IsUnpaired tokens end Missing offset = ⊥
 IsUnpaired tokens end Unbuilt offset = ⊥
+IsUnpaired tokens end X6 offset = ⊥
+IsUnpaired tokens end X7 offset = ⊥
+IsUnpaired tokens end X11 offset = ⊥
+IsUnpaired tokens end X22 offset = ⊥
 
 -- the text has tokens, and their brackets have a fault of this cause at this place
 abbrev pub HasBracketFault : List ℕ → Code → ℕ → Type 0
@@ -44,15 +53,35 @@ IsRefused components Syntax offset = first_refusal (sheet_refusals components) �
 IsRefused components Unbuilt offset = first_refusal (sheet_refusals components) ≡ Some (unbuilt offset)
 IsRefused components Depth offset = ⊥
 IsRefused components Missing offset = ⊥
+IsRefused components X6 offset = ⊥
+IsRefused components X7 offset = ⊥
+IsRefused components X11 offset = ⊥
+IsRefused components X22 offset = ⊥
 
 -- the text has component values, and the sheet of them is refused at this place, for this cause
 abbrev pub HasRefusal : List ℕ → Code → ℕ → Type 0
 HasRefusal bytes code offset = (components : List Component) × HasComponents bytes components × IsRefused components code offset
 
+-- the text has component values that spell this sheet
+abbrev pub SpellsSheet : List ℕ → Sheet → Type 0
+SpellsSheet bytes sheet = (components : List Component) × HasComponents bytes components × (sheet_of components ≡ Some sheet)
+
+-- the code of a finding, and its place in its file
+abbrev pub code_and_offset : Finding → Code × ℕ
+code_and_offset finding = (finding.code, finding.place.offset)
+
+-- of what cannot be expressed in the sheet, this code at this place is named
+abbrev pub IsFound : Sheet → Code → ℕ → Type 0
+IsFound sheet code offset = option_map code_and_offset (first_finding (sheet_findings 0 sheet)) ≡ Some (code, offset)
+
+-- the text has a sheet in which this cannot be expressed
+abbrev pub HasConstruct : List ℕ → Code → ℕ → Type 0
+HasConstruct bytes code offset = (sheet : Sheet) × SpellsSheet bytes sheet × IsFound sheet code offset
+
 -- the text is refused first at this place, for this cause
 unfoldable pub HasFinding : List ℕ → Code → ℕ → Type 0
-HasFinding bytes code offset = HasStop bytes code offset ⊎ (HasBracketFault bytes code offset ⊎ HasRefusal bytes code offset)
+HasFinding bytes code offset = HasStop bytes code offset ⊎ (HasBracketFault bytes code offset ⊎ (HasRefusal bytes code offset ⊎ HasConstruct bytes code offset))
 
--- nothing stands against the text: it reads as a sheet that is not refused
+-- nothing stands against the text: it reads as a sheet in which all can be expressed
 unfoldable pub IsAccepted : List ℕ → Type 0
-IsAccepted bytes = (components : List Component) × HasComponents bytes components × (sheet_refusals components ≡ [])
+IsAccepted bytes = (sheet : Sheet) × SpellsSheet bytes sheet × (sheet_findings 0 sheet ≡ [])

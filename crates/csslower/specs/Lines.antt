@@ -3,7 +3,7 @@ use Rattle.std.specs.Prelude.{ℕ, List, [], ◌∷◌, ◌++◌, codes}
 use Rattle.std.specs.Fmt.{decimal}
 use Rattle.cascade_spec.specs.Lines.{line_of, column_of}
 use Rattle.cascade_spec.specs.declared.finding.Code.{Code}
-use Rattle.cascade_spec.specs.declared.finding.Code.TheVariants.{Syntax, Depth, Missing, Unbuilt}
+use Rattle.cascade_spec.specs.declared.finding.Code.TheVariants.{Syntax, Depth, Missing, Unbuilt, X6, X7, X11, X22}
 use Rattle.cascade_spec.specs.declared.finding.Finding.{Finding}
 
 -- the end of a line
@@ -16,6 +16,10 @@ code_text Syntax = codes "Syntax cannot be read"
 code_text Depth = codes "Depth nested too deep"
 code_text Missing = codes "Missing file not found"
 code_text Unbuilt = codes "Unbuilt not built yet"
+code_text X6 = codes "X6 :where"
+code_text X7 = codes "X7 :not of other than one simple selector"
+code_text X11 = codes "X11 functional pseudo"
+code_text X22 = codes "X22 attribute flag"
 
 -- a line and a column, counted from 1, where a text is cut into lines by LF
 abbrev pub place_text : List ℕ → ℕ → List ℕ

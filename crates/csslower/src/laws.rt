@@ -14,6 +14,7 @@ pub fn one_finding()
     css_tokens::one_reading();
     css_tokens::one_bracket_fault();
     css_tokens::one_pairing();
+    css_rules::sheets_have_readings_or_refusals();
 }
 
 /// Over all words and files one answer stands first, and no more than one.
@@ -23,4 +24,6 @@ pub fn first_answer()
     one_finding();
     css_tokens::some_reading();
     css_tokens::some_pairing();
+    css_rules::sheets_have_readings_or_refusals();
+    findings::the_first_finding_is_named();
 }

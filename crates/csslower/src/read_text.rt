@@ -1,12 +1,14 @@
 ghost use Rattle.std.specs.Prelude.{◌≡◌, ◌≤◌, [], Some, length, IfOk, IfErr};
 ghost use Rattle.css_rules.specs.Sheets.{sheet_of, sheet_refusals};
 ghost use Rattle.csslower.specs.Findings.{HasTokens, HasComponents};
-ghost use Rattle.csslower.specs.Private.TextFaults.{IsTextFault, IsWithin};
+ghost use Rattle.findings.specs.Constructs.{sheet_findings};
+ghost use Rattle.csslower.specs.Private.TextFaults.{IsTextFault};
 
 use crate::text_fault::TextFault;
 use cascade_spec::Code;
 use css_rules::{RuleFault, Sheet, read_sheet};
 use css_tokens::{Component, ComponentFault, List, Token, TokenFault, components, tokens};
+use findings::{Clean, check};
 use std::alloc::Global;
 
 /// The tokens of a file's text.
@@ -15,7 +17,6 @@ fn text_tokens<'a>(alloc: Global, text: &'a [u8]) -> Result<List<Token<'a>>, Tex
     requires short { length text.now ≤ 4194304 }
     ensures read { IfOk result (λ ts. HasTokens text.now ts) }
     ensures refused { IfErr result (λ fault. IsTextFault text.now fault) }
-    ensures place { IfErr result (λ fault. IsWithin text.now fault) }
 {
     css_tokens::one_reading();
     match tokens(alloc, text) {
@@ -37,7 +38,6 @@ pub(crate) fn text_components<'a>(
     requires short { length text.now ≤ 4194304 }
     ensures read { IfOk result (λ cs. HasComponents text.now cs) }
     ensures refused { IfErr result (λ fault. IsTextFault text.now fault) }
-    ensures place { IfErr result (λ fault. IsWithin text.now fault) }
 {
     let tokens = text_tokens(alloc, text)?;
     css_tokens::places_rise_in_a_text();
@@ -67,10 +67,7 @@ pub(crate) fn text_sheet<'a>(
     ensures found { IfOk result (λ sheet. sheet_of components.now ≡ Some sheet) }
     ensures faultless { IfOk result (λ _. sheet_refusals components.now ≡ []) }
     ensures refused { IfErr result (λ fault. IsTextFault text.now fault) }
-    ensures place { IfErr result (λ fault. IsWithin text.now fault) }
 {
-    css_tokens::places_rise_in_a_text();
-    css_rules::refusals_stand_within();
     match read_sheet(alloc, components, text.len() as u32) {
         Ok(sheet) => Ok(sheet),
         Err(RuleFault::Syntax(offset)) => Err(TextFault::Finding {
@@ -82,5 +79,27 @@ pub(crate) fn text_sheet<'a>(
             offset,
         }),
         Err(RuleFault::Memory) => Err(TextFault::Memory),
+    }
+}
+
+/// The sheet of a file's text, where all in it can be expressed.
+#[tactic(auto, unfolding(crate::specs::Findings::HasFinding))]
+pub(crate) fn text_clean<'s, 'a>(
+    text: &[u8],
+    components: &[Component<'a>],
+    sheet: &'s Sheet<'a>,
+) -> Result<Clean<'s, 'a>, TextFault>
+    requires read { HasComponents text.now components.now }
+    requires found { sheet_of components.now ≡ Some sheet.now }
+    ensures clean { IfOk result (λ clean. clean ≡ sheet.now) }
+    ensures nothing { IfOk result (λ _. sheet_findings 0 sheet.now ≡ []) }
+    ensures refused { IfErr result (λ fault. IsTextFault text.now fault) }
+{
+    match check(sheet) {
+        Ok(clean) => Ok(clean),
+        Err(finding) => Err(TextFault::Finding {
+            code: finding.code,
+            offset: finding.place.offset,
+        }),
     }
 }

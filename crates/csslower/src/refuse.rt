@@ -20,7 +20,6 @@ pub(crate) fn refuse<O: Outbox>(
     finding: Finding,
     out: &mut O,
 ) -> Status
-    requires within { finding.place.offset ≤ length source.now }
     requires short { length source.now ≤ 4194304 }
     ensures answer { result ≡ Status.Refused finding }
     ensures ready { O.ready out.new ≡ O.ready out.old }
@@ -42,7 +41,6 @@ fn refusal_line(
     source: &[u8],
     finding: Finding,
 ) -> Result<String, OutOfMemory>
-    requires within { finding.place.offset ≤ length source.now }
     requires short { length source.now ≤ 4194304 }
     ensures { IfOk result (λ line. string_bytes line ≡ refusal_line path.now source.now finding) }
 {
@@ -60,5 +58,9 @@ fn code_text(code: Code) -> &'static str
         Code::Depth => "Depth nested too deep",
         Code::Missing => "Missing file not found",
         Code::Unbuilt => "Unbuilt not built yet",
+        Code::X6 => "X6 :where",
+        Code::X7 => "X7 :not of other than one simple selector",
+        Code::X11 => "X11 functional pseudo",
+        Code::X22 => "X22 attribute flag",
     }
 }

@@ -1,5 +1,5 @@
 -- What a fault of a text says, unless memory ran out.
-use Rattle.std.specs.Prelude.{ℕ, ◌≤◌, List, length}
+use Rattle.std.specs.Prelude.{ℕ, List}
 use Rattle.csslower.specs.Findings.{HasFinding}
 use Rattle.csslower.specs.declared.text_fault.TextFault.{TextFault}
 use Rattle.csslower.specs.declared.text_fault.TextFault.TheVariants.{Finding, Memory}
@@ -8,8 +8,3 @@ use Rattle.csslower.specs.declared.text_fault.TextFault.TheVariants.{Finding, Me
 abbrev pub IsTextFault : List ℕ → TextFault → Type 0
 IsTextFault bytes (Finding code offset) = HasFinding bytes code offset
 IsTextFault bytes Memory = Unit {0}
-
--- the place of a refusal is in the text or at its end
-abbrev pub IsWithin : List ℕ → TextFault → Type 0
-IsWithin bytes (Finding code offset) = offset ≤ length bytes
-IsWithin bytes Memory = Unit {0}

@@ -4,7 +4,31 @@ use crate::run::run;
 use crate::status::Status;
 use css_outside::MemoryOutbox;
 use css_tokens::List;
+use std::alloc::Global;
+use std::process::Abort;
 use std::test::Fail;
+
+// Runs over this text of a.css, and finds this text written and nothing said.
+fn assert_writes(rt: &impl Abort, alloc: Global, text: &[u8], written: &[u8]) -> Result<(), Fail> {
+    let mut files = one_file(alloc, "a.css", Vec::from_slice(alloc, text)?, false)?;
+    let mut out = outputs(alloc)?;
+    let status = run(alloc, &["a.css"], &mut files, &mut out, &NoGate);
+    assert_eq!(rt; status, Status::Done);
+    assert_eq!(rt; out.held("-"), Some(written));
+    assert_eq!(rt; out.held("!"), None);
+    Ok(())
+}
+
+// Runs over this text of a.css, and finds it refused with this line and nothing written.
+fn assert_names(rt: &impl Abort, alloc: Global, text: &[u8], line: &[u8]) -> Result<(), Fail> {
+    let mut files = one_file(alloc, "a.css", Vec::from_slice(alloc, text)?, false)?;
+    let mut out = outputs(alloc)?;
+    let status = run(alloc, &["a.css"], &mut files, &mut out, &NoGate);
+    assert_eq!(rt; status.number(), 1);
+    assert_eq!(rt; out.held("!"), Some(line));
+    assert_eq!(rt; out.held("-"), None);
+    Ok(())
+}
 
 #[test]
 fn writes_plain_rules(rt: HostRuntime) -> Result<(), Fail> {
@@ -53,17 +77,70 @@ fn writes_plain_rules(rt: HostRuntime) -> Result<(), Fail> {
         ),
     ];
     for (text, written) in rows {
-        let mut files = one_file(
-            rt.alloc(),
-            "a.css",
-            Vec::from_slice(rt.alloc(), text)?,
-            false,
-        )?;
-        let mut out = outputs(rt.alloc())?;
-        let status = run(rt.alloc(), &["a.css"], &mut files, &mut out, &NoGate);
-        assert_eq!(rt; status, Status::Done);
-        assert_eq!(rt; out.held("-"), Some(written));
-        assert_eq!(rt; out.held("!"), None);
+        assert_writes(&rt, rt.alloc(), text, written)?;
+    }
+    Ok(())
+}
+
+#[test]
+fn writes_selectors_in_one_spelling(rt: HostRuntime) -> Result<(), Fail> {
+    let rows: [(&[u8], &[u8]); 7] = [
+        (b"a:hover{color:red}", b"a:hover{color:red}\n"),
+        (
+            b"a:AFTER,[x=y]{color:red}",
+            b"a::after,[x=\"y\"]{color:red}\n",
+        ),
+        (
+            b"li:nth-child(2N + 1){color:red}",
+            b"li:nth-child(2n+1){color:red}\n",
+        ),
+        (
+            b"a::before:hover{color:red}",
+            b"a::before:hover{color:red}\n",
+        ),
+        (
+            b"A.B:NOT(.c)[HREF = \"x\"]{color:red}",
+            b"A.B:not(.c)[HREF=\"x\"]{color:red}\n",
+        ),
+        (
+            b"li:nth-child( -n + 3 ):lang(en){a:b}",
+            b"li:nth-child(-n+3):lang(en){a:b}\n",
+        ),
+        (
+            b"a:focus-visible::-moz-focus-inner,a:not([b]){c:d}",
+            b"a:focus-visible::-moz-focus-inner,a:not([b]){c:d}\n",
+        ),
+    ];
+    for (text, written) in rows {
+        assert_writes(&rt, rt.alloc(), text, written)?;
+    }
+    Ok(())
+}
+
+#[test]
+fn names_what_cannot_be_expressed(rt: HostRuntime) -> Result<(), Fail> {
+    let rows: [(&[u8], &[u8]); 9] = [
+        (
+            b"a:not(.b,.c){color:red}",
+            b"a.css:1:2: X7 :not of other than one simple selector\n",
+        ),
+        (
+            b"a:not(b .c){color:red}",
+            b"a.css:1:2: X7 :not of other than one simple selector\n",
+        ),
+        (b"[a=b i]{color:red}", b"a.css:1:1: X22 attribute flag\n"),
+        (b"a:foo(b){c:d}", b"a.css:1:2: X11 functional pseudo\n"),
+        (b"a::part(b){c:d}", b"a.css:1:2: X11 functional pseudo\n"),
+        (b"a:global(.b){c:d}", b"a.css:1:2: X11 functional pseudo\n"),
+        (b"a:where(.b){c:d}", b"a.css:1:2: X6 :where\n"),
+        (
+            b"p{a:b}.c :not(:where(d)),[e=f i]{g:h}",
+            b"a.css:1:10: X7 :not of other than one simple selector\n",
+        ),
+        (b".a:is(.b){c:d}", b"a.css:1:3: Unbuilt not built yet\n"),
+    ];
+    for (text, line) in rows {
+        assert_names(&rt, rt.alloc(), text, line)?;
     }
     Ok(())
 }
@@ -88,7 +165,7 @@ fn names_what_stands_first(rt: HostRuntime) -> Result<(), Fail> {
             b"p{background:URL( x.png )}",
             b"a.css:1:14: Unbuilt not built yet\n",
         ),
-        (b"a:hover{color:red}", b"a.css:1:2: Unbuilt not built yet\n"),
+        (b"&p{color:red}", b"a.css:1:1: Unbuilt not built yet\n"),
         (
             b"@media print{p{color:red}}",
             b"a.css:1:1: Unbuilt not built yet\n",
@@ -100,17 +177,7 @@ fn names_what_stands_first(rt: HostRuntime) -> Result<(), Fail> {
         (b"p{margin-inline:0}", b"a.css:1:3: Unbuilt not built yet\n"),
     ];
     for (text, line) in rows {
-        let mut files = one_file(
-            rt.alloc(),
-            "a.css",
-            Vec::from_slice(rt.alloc(), text)?,
-            false,
-        )?;
-        let mut out = outputs(rt.alloc())?;
-        let status = run(rt.alloc(), &["a.css"], &mut files, &mut out, &NoGate);
-        assert_eq!(rt; status.number(), 1);
-        assert_eq!(rt; out.held("!"), Some(line));
-        assert_eq!(rt; out.held("-"), None);
+        assert_names(&rt, rt.alloc(), text, line)?;
     }
     Ok(())
 }

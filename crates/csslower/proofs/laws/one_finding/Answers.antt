@@ -12,6 +12,7 @@ returns c =
       brackets = brackets.one;
       paired = brackets.either;
       pairing = c.one_pairing.ensures;
+      unrefused = c.sheets_have_readings_or_refusals.ensures.read;
     } in
     record {
       one = finding_one laws;
