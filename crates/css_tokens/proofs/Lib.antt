@@ -1,6 +1,8 @@
 pub mod Again
 pub mod Boundaries
 pub mod Checks
+pub mod ComponentReadingLemmas
+pub mod ComponentsOrFault
 pub mod ContentLemmas
 pub mod ContentSteps
 pub mod DecodedNames
@@ -8,11 +10,13 @@ pub mod Derivatives
 pub mod Firsts
 pub mod Evens
 pub mod Fronts
+pub mod PlainFronts
 pub mod IdentStarts
 pub mod Kept
 pub mod MachineRows
 pub mod MachineStates
 pub mod OneBracketFault
+pub mod OneComponent
 pub mod OneReading
 pub mod Reading
 pub mod Runs
@@ -31,6 +35,7 @@ pub mod PartedChain
 pub mod PartedLists
 pub mod PartedWords
 pub mod PrintedAgain
+pub mod ProgressLemmas
 pub mod Rebuilt
 pub mod SingleGaps
 pub mod SomePairing
@@ -51,3 +56,5 @@ pub mod ValueReads
 pub mod UrlNames
 pub mod Within
 pub mod NumberStays
+pub mod HashFirst
+pub mod WordTexts

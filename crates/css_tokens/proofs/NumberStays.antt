@@ -1,5 +1,5 @@
 -- Numbers and dimensions before a text that does not go on with them.
-use Rattle.std.proofs.Common.{◌≡◌, ℕ, ◌<◌, List, [], ◌∷◌, ◌++◌, Bool, true, false, not, ◌&&◌, ◌||◌, refl, sym, inl, inr, ap, ◌∙◌, subst, Some, nat_eq, append_assoc, arith}
+use Rattle.std.proofs.Common.{◌≡◌, ℕ, List, [], ◌∷◌, ◌++◌, Bool, true, false, not, ◌||◌, refl, sym, inl, inr, ap, ◌∙◌, subst, Some, nat_eq, append_assoc, arith}
 use Rattle.std.proofs.lemmas.Bool.{agree_below_at, and_parts, or_cases}
 use Rattle.std.proofs.lemmas.Bool.Decides.{nat_tests}
 use Rattle.std.specs.Char.{is_ascii_digit}

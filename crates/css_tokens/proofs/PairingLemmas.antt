@@ -55,7 +55,7 @@ module _ (ts : List Piece) (i : ℕ) (t : Piece) (within : i < length ts) (is : 
   pub pieces_more : (ps qs : List Piece) → ps ≡ take i ts → qs ≡ ps ++ t ∷ [] → qs ≡ take (i + 1) ts
   pieces_more ps qs e f = f ∙ ap (λ r. r ++ t ∷ []) e ∙ sym more
 
-nonempty_unclosed : (ts : List Piece) (end : ℕ) (waiting : List (List ℕ)) → 0 < length waiting → awaited ts ≡ Some waiting → IsShallow ts → IsUnclosed ts end end
+pub nonempty_unclosed : (ts : List Piece) (end : ℕ) (waiting : List (List ℕ)) → 0 < length waiting → awaited ts ≡ Some waiting → IsShallow ts → IsUnclosed ts end end
 nonempty_unclosed ts end [] h matched shallow = absurd (omega arith)
 nonempty_unclosed ts end (innermost ∷ outer) h matched shallow = record { innermost = innermost; outer = outer; unclosed = matched; shallow = shallow; place = refl }
 

@@ -41,16 +41,16 @@ module _ (front : List Piece) (t : Piece) (rest : List Piece) (waiting : List (L
   sound : IsSoundBefore (front ++ t ∷ rest) front t t.at
   sound = record { rest = rest; split = refl; waiting = waiting; matched = matched; shallow = shallow; place = refl }
 
-  mismatched : awaited_next waiting t ≡ None → IsMismatch (front ++ t ∷ rest) t.at
+  pub mismatched : awaited_next waiting t ≡ None → IsMismatch (front ++ t ∷ rest) t.at
   mismatched e = record { front = front; token = t; before = sound; none = awaited_push front t waiting matched ∙ e }
 
   depth_next : (next : List (List ℕ)) → awaited_next waiting t ≡ Some next → depth (front ++ t ∷ []) ≡ length next
   depth_next next e = ap (λ o. length (unwrap_or o [])) (awaited_push front t waiting matched ∙ e)
 
-  too_deep : (next : List (List ℕ)) → awaited_next waiting t ≡ Some next → length next ≡ 65 → IsTooDeep (front ++ t ∷ rest) t.at
+  pub too_deep : (next : List (List ℕ)) → awaited_next waiting t ≡ Some next → length next ≡ 65 → IsTooDeep (front ++ t ∷ rest) t.at
   too_deep next e n = record { front = front; token = t; before = sound; deep = depth_next next e ∙ n }
 
-  still_shallow : (next : List (List ℕ)) → awaited_next waiting t ≡ Some next → length next ≤ 64 → IsShallow (front ++ t ∷ [])
+  pub still_shallow : (next : List (List ℕ)) → awaited_next waiting t ≡ Some next → length next ≤ 64 → IsShallow (front ++ t ∷ [])
   still_shallow next e h = IsShallow_push front t shallow (rw (depth_next next e) h)
 
 judged_end : (ts : List Piece) (end : ℕ) (waiting : List (List ℕ)) → awaited ts ≡ Some waiting → IsShallow ts → Judged ts end
@@ -73,7 +73,7 @@ judged_from (t ∷ rest) front end waiting matched shallow l =
     judged_next front t rest end waiting matched shallow l (awaited_next waiting t) refl
     (λ next m s k. subst (λ ts. Judged ts end) (append_assoc front (t ∷ []) rest) (judged_from rest (front ++ t ∷ []) end next m s k))
 
-nothing_shallow : IsShallow []
+pub nothing_shallow : IsShallow []
 nothing_shallow n = elim n as (λ m. depth (take m []) ≤ 64) [ zero ↦ omega arith | suc m ↦ omega arith ]
 
 -- tokens are paired, or have a fault of brackets

@@ -1,5 +1,6 @@
 pub mod Again
 pub mod Characters
+pub mod Components
 pub mod Contents
 pub mod Faults
 pub mod formers
@@ -12,6 +13,7 @@ pub mod Names
 pub mod Pairing
 pub mod Piece
 pub mod PlainNames
+pub mod Progress
 pub mod Refusals
 pub mod StringText
 pub mod Samples

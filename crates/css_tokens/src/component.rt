@@ -1,6 +1,6 @@
 ghost use Rattle.std.specs.Prelude.{◌≡◌, IfOk};
 
-use crate::{List, OutOfMemory, Token};
+use crate::{Boxed, List, OutOfMemory, Token};
 use std::alloc::Global;
 
 /// A component value (CSS Syntax 3, section 5).
@@ -10,7 +10,7 @@ pub enum Component<'a> {
     /// A token that opens and closes nothing.
     Single(Token<'a>),
     /// A token that opens, what it holds, and the place of the token that closes it.
-    Block(Block<'a>),
+    Block(Boxed<Block<'a>>),
 }
 
 /// A block or a function: all between an opening token and the closing token that matches it.
@@ -33,7 +33,10 @@ impl<'a> Component<'a> {
     {
         match self {
             Component::Single(token) => Ok(Component::Single(token.copy())),
-            Component::Block(block) => Ok(Component::Block(block.copy(alloc)?)),
+            Component::Block(block) => {
+                let copy = block.get().copy(alloc)?;
+                Ok(Component::Block(Boxed::new(alloc, copy)?))
+            }
         }
     }
 }

@@ -1,13 +1,15 @@
-ghost use Rattle.std.specs.Prelude.{ℕ, List, ◌∷◌, [], ◌++◌, ◌≡◌, ◌≢◌, ◌≤◌, ◌⊎◌, IsTrue, true, false, codes, length, map};
+ghost use Rattle.std.specs.Prelude.{ℕ, List, ◌&&◌, not, ◌∷◌, [], ◌++◌, ◌≡◌, ◌≢◌, ◌≤◌, ◌⊎◌, IsTrue, true, false, codes, length, map};
 ghost use Rattle.std.specs.List.{AllByRecursion, list_all, list_any};
-ghost use Rattle.std.specs.Str.{IsUtf8, str_to_ascii_lowercase};
+ghost use Rattle.std.specs.Str.{IsUtf8, is_utf8, str_to_ascii_lowercase};
 ghost use Rattle.css_tokens.specs.declared.component.Component.{Component};
 ghost use Rattle.css_tokens.specs.declared.class.Class.TheVariants as class;
 ghost use Rattle.css_tokens.specs.declared.kind.Kind.TheVariants as kind;
 ghost use Rattle.css_tokens.specs.declared.pairing.ComponentFault.{ComponentFault};
+ghost use Rattle.css_tokens.specs.declared.pairing.ComponentFault.TheVariants as fault;
 ghost use Rattle.css_tokens.specs.Again.{StaysFirst, Alike, KeepsQuote, is_solid, is_stop, is_end_kind, word_from, marks, begins_none, after_ident, after_name, more_name, takes, digit, digit_or_dot};
 ghost use Rattle.css_tokens.specs.Characters.{white};
 ghost use Rattle.css_tokens.specs.NameText.{name_text};
+ghost use Rattle.css_tokens.specs.Components.{HasComponents, IsFirstFault};
 ghost use Rattle.css_tokens.specs.Names.{is_content, is_name, name_of_word, starts_ident};
 ghost use Rattle.css_tokens.specs.Pairing.{IsBracketFault, IsMismatch, IsPaired, IsTooDeep, IsUnclosed, places_rise};
 ghost use Rattle.css_tokens.specs.Piece.{Piece, Word, spelled, word_of};
@@ -41,6 +43,14 @@ pub fn some_reading()
 pub fn some_pairing()
     ensures either { (ts : List Piece) (end : ℕ) → IsPaired ts ⊎ ((f : ComponentFault) × IsBracketFault ts end f) }
     ensures components { (ts : List Piece) → IsPaired ts → (cs : List Component) × (pieces_all cs ≡ ts) × IsTrue (all_formed cs) }
+{}
+
+/// Every text has component values or a first fault, and one of these.
+pub fn components_or_fault()
+    ensures some { (t : List ℕ) → ((cs : List Component) × HasComponents t cs) ⊎ ((f : ComponentFault) × (f ≢ fault.Memory) × IsFirstFault t f) }
+    ensures one { (t : List ℕ) (a b : List Component) → HasComponents t a → HasComponents t b → a ≡ b }
+    ensures either { (t : List ℕ) (cs : List Component) (f : ComponentFault) → HasComponents t cs → IsFirstFault t f → f ≡ fault.Memory }
+    ensures fault { (t : List ℕ) (f g : ComponentFault) → f ≢ fault.Memory → g ≢ fault.Memory → IsFirstFault t f → IsFirstFault t g → f ≡ g }
 {}
 
 /// The places of the tokens of a text rise and lie within it, and so do the places of faults of brackets.
@@ -93,9 +103,14 @@ pub fn names_spell()
     ensures again { (n : List ℕ) → is_name n ≡ true → name_of_word kind.Ident (name_text n) ≡ n }
     ensures hash_again { (n : List ℕ) → is_name n ≡ true → name_of_word kind.Hash (codes "#" ++ name_text n) ≡ n }
     ensures decoded { (t : List ℕ) → IsUtf8 t → spells kind.Ident t ≡ true → is_name (name_of_word kind.Ident t) ≡ true }
-    ensures hash_decoded { (t : List ℕ) → IsUtf8 t → spells kind.Hash (codes "#" ++ t) ≡ true → is_name (name_of_word kind.Hash (codes "#" ++ t)) ≡ true }
+    ensures hash_decoded { (t : List ℕ) → IsUtf8 t → spells kind.Hash t ≡ true → is_name (name_of_word kind.Hash t) ≡ true }
     ensures at_decoded { (t : List ℕ) → IsUtf8 t → spells kind.At (codes "@" ++ t) ≡ true → is_name (name_of_word kind.At (codes "@" ++ t)) ≡ true }
     ensures first { (t : List ℕ) (w : Word) → First t w → spells w.kind w.text ≡ true }
+{}
+
+/// The words of a text are in UTF-8, and hold no control character.
+pub fn words_are_clean()
+    ensures { (t : List ℕ) (ws : List Word) → Reads t ws → list_all (λ w. is_utf8 w.text && not (list_any is_control w.text)) ws ≡ true }
 {}
 
 /// What stands behind the `#` of a Hash spells an Ident where it would start one, and nowhere else (CSS Syntax 3, section

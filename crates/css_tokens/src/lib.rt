@@ -1,10 +1,14 @@
 //! Tokens and component values of CSS text (CSS Syntax 3), and the lists and texts that the other crates share.
 #![tactic(auto)]
 
+mod boxed;
 mod class;
 mod component;
+mod component_reader;
 mod content;
+mod cursor;
 pub mod examples;
+mod front;
 mod kind;
 mod laws;
 mod list;
@@ -15,17 +19,18 @@ mod pairing;
 mod plain;
 mod print;
 mod reader;
-#[cfg(test)]
-mod testing;
 mod text;
 mod token;
 mod value;
 
+pub use boxed::Boxed;
 pub use component::{Block, Component, copy_all};
+pub use component_reader::ComponentReader;
 pub use kind::Kind;
 pub use laws::{
-    ids_spell, names_spell, names_stay, numbers_stay, one_bracket_fault, one_reading,
-    places_rise_in_a_text, some_pairing, some_reading, strings_spell, values_again, words_again,
+    components_or_fault, ids_spell, names_spell, names_stay, numbers_stay, one_bracket_fault,
+    one_reading, places_rise_in_a_text, some_pairing, some_reading, strings_spell, values_again,
+    words_again, words_are_clean,
 };
 pub use list::List;
 pub use memory::OutOfMemory;

@@ -1,4 +1,4 @@
-ghost use Rattle.std.specs.Prelude.{◌≡◌, [], ◌∷◌, ◌++◌, ◌↔◌, ◌<◌, length, IsTrue, IfOk, OnOk, OnErr, OnSome, slice_get};
+ghost use Rattle.std.specs.Prelude.{◌≡◌, [], ◌∷◌, ◌++◌, ◌↔◌, ◌<◌, length, IsTrue, IfOk, OnOk, OnErr, OnSome, IfNone, slice_get, option_to_list};
 ghost use Rattle.std.specs.Option.{option_copied};
 
 use crate::OutOfMemory;
@@ -77,15 +77,42 @@ impl<T> List<T> {
         self.items.get(at)
     }
 
+    /// Takes out the last item, if there is one. The memory is kept.
+    pub fn pop(&mut self) -> Option<T>
+        ensures items { self.old ≡ self.new ++ option_to_list result }
+        ensures none { IfNone result (self.old ≡ []) }
+    {
+        self.items.pop()
+    }
+
     /// Gives back the memory that no item needs, where the allocator takes it.
     pub fn shrink_to_fit(&mut self)
         ensures { self.new ≡ self.old }
     {
         self.items.shrink_to_fit();
     }
+
+    /// Moves the items into a list that has room for them alone. This one keeps its room, for what comes next. A refusal
+    /// changes nothing.
+    pub fn take_all(&mut self) -> Result<List<T>, OutOfMemory>
+        ensures moved { IfOk result (λ list. list ≡ self.old) }
+        ensures ok { OnOk result (self.new ≡ []) }
+        ensures err { OnErr result (self.new ≡ self.old) }
+    {
+        Ok(List {
+            items: self.items.split_off(0)?,
+        })
+    }
 }
 
 impl<T: Drop> List<T> {
+    /// Drops all items, and keeps the room.
+    pub fn clear(&mut self)
+        ensures { self.new ≡ [] }
+    {
+        self.items.clear();
+    }
+
     /// Adds an item at the end. A refusal changes nothing, and drops the item. The first one takes room for itself alone,
     /// since most lists of a sheet hold one item.
     pub fn push(&mut self, item: T) -> Result<(), OutOfMemory>

@@ -77,6 +77,7 @@ pub(crate) enum State {
 }
 
 /// What has been read after one more character.
+#[inline(always)]
 pub(crate) fn step(state: State, class: Class) -> State
     ensures { result ≡ next state class }
 {
@@ -120,6 +121,7 @@ pub(crate) fn step(state: State, class: Class) -> State
     }
 }
 
+#[inline(always)]
 fn step_start(class: Class) -> State
     ensures { result ≡ from_start class }
 {
@@ -150,6 +152,7 @@ fn step_start(class: Class) -> State
 }
 
 /// In white space, a comment, a string or `<!--`.
+#[inline(always)]
 fn step_text(state: State, class: Class) -> State
     ensures { result ≡ from_text state class }
 {
@@ -202,6 +205,7 @@ fn step_text(state: State, class: Class) -> State
 }
 
 /// In a name, whatever stands before it.
+#[inline(always)]
 fn step_name(state: State, class: Class) -> State
     ensures { result ≡ from_name state class }
 {
@@ -274,6 +278,7 @@ fn step_name(state: State, class: Class) -> State
 }
 
 /// In a number or its unit.
+#[inline(always)]
 fn step_number(state: State, class: Class) -> State
     ensures { result ≡ from_number state class }
 {
@@ -327,6 +332,7 @@ fn step_number(state: State, class: Class) -> State
 }
 
 /// In what may be the exponent of a number, or its unit.
+#[inline(always)]
 fn step_exponent(state: State, class: Class) -> State
     ensures { result ≡ from_exponent state class }
 {
@@ -381,6 +387,7 @@ fn step_exponent(state: State, class: Class) -> State
 }
 
 /// In what follows the `(` of a Url.
+#[inline(always)]
 fn step_url(state: State, class: Class) -> State
     ensures { result ≡ from_url state class }
 {
@@ -541,6 +548,7 @@ fn kind_of_slash_before(class: Class) -> Option<Kind>
 }
 
 /// The kind of what has been read, if it is a whole token before these bytes.
+#[inline(always)]
 pub(crate) fn kind_at(state: State, after: &[u8]) -> Option<Kind>
     ensures { result ≡ ended state (map class_of after.now) }
 {

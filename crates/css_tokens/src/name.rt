@@ -70,6 +70,3 @@ pub fn name_of<'a>(alloc: Global, token: &Token<'a>) -> Result<Text<'a>, OutOfMe
         _ => content(alloc, text, End::Never),
     }
 }
-
-#[cfg(test)]
-mod tests;

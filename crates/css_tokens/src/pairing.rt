@@ -4,7 +4,7 @@ ghost use Rattle.css_tokens.specs.Trees.{pieces_all, all_formed, opens, closes, 
 ghost use Rattle.css_tokens.specs.Refusals.{IsRefusal};
 ghost use Rattle.css_tokens.specs.Private.Nests.{nest_pieces, nest_awaited, nest_formed, IsOneTooDeep};
 
-use crate::{Block, Component, Kind, List, OutOfMemory, Token};
+use crate::{Block, Boxed, Component, Kind, List, OutOfMemory, Token};
 use std::alloc::{AllocFailed, Global};
 use std::mem;
 use thiserror::Error;
@@ -45,12 +45,9 @@ impl<T: Drop> From<AllocFailed<T>> for ComponentFault {
 /// How many blocks may be open at once.
 const MOST_OPEN: usize = 64;
 
-/// For how many components a block has room when it opens.
-const ROOM: usize = 16;
-
 /// A block whose closing token is still to come.
 #[derive(Debug, Drop)]
-struct Opened<'a> {
+pub(crate) struct Opened<'a> {
     /// What stands before it in the block around it.
     before: List<Component<'a>>,
     opening: Token<'a>,
@@ -58,11 +55,13 @@ struct Opened<'a> {
 
 /// What the tokens so far are made into.
 #[derive(Debug, Drop)]
-struct Nest<'a> {
+pub(crate) struct Nest<'a> {
     /// The open blocks, the outermost first.
-    outer: Vec<Opened<'a>>,
+    pub(crate) outer: Vec<Opened<'a>>,
     /// What stands in the innermost open block.
-    items: List<Component<'a>>,
+    pub(crate) items: List<Component<'a>>,
+    /// Lists of blocks that are closed, whose room the next blocks take.
+    pub(crate) spare: Vec<List<Component<'a>>>,
 }
 
 /// The text that closes what a token of this text opens.
@@ -77,14 +76,14 @@ pub(crate) fn closing_text(opening: &str) -> &'static str
 }
 
 /// Whether a token of this kind opens a block.
-fn opens(kind: Kind) -> bool
+pub(crate) fn opens(kind: Kind) -> bool
     ensures { result ≡ opens kind }
 {
     matches!(kind, Kind::Open | Kind::Function)
 }
 
 /// Whether a token of this kind closes a block.
-fn closes(kind: Kind) -> bool
+pub(crate) fn closes(kind: Kind) -> bool
     ensures { result ≡ closes kind }
 {
     matches!(kind, Kind::Close)
@@ -102,6 +101,21 @@ impl<'a> Nest<'a> {
         self.items.push(Component::Single(token))
     }
 
+    /// An empty list, with the room of a closed block where there is one.
+    fn room(&mut self, alloc: Global) -> List<Component<'a>>
+        ensures empty { result ≡ [] }
+        ensures outer { self.new.outer ≡ self.old.outer }
+        ensures items { self.new.items ≡ self.old.items }
+    {
+        match self.spare.pop() {
+            Some(mut list) => {
+                list.clear();
+                list
+            }
+            None => List::new(alloc),
+        }
+    }
+
     /// Takes a token that opens a block.
     fn begin(&mut self, alloc: Global, token: Token<'a>) -> Result<(), OutOfMemory>
         requires opens { opens token.kind ≡ true }
@@ -109,7 +123,7 @@ impl<'a> Nest<'a> {
         ensures awaited { OnOk result (nest_awaited self.new ≡ closing_text token.entry.text ∷ nest_awaited self.old) }
         ensures formed { OnOk result (nest_formed self.old ≡ true → nest_formed self.new ≡ true) }
     {
-        let inside = List::with_capacity(alloc, ROOM)?;
+        let inside = self.room(alloc);
         let before = mem::replace(&mut self.items, inside);
         self.outer.push(Opened {
             before,
@@ -119,7 +133,7 @@ impl<'a> Nest<'a> {
     }
 
     /// Takes a token that closes a block, if it matches the innermost open one.
-    fn end(&mut self, token: &Token<'a>) -> Result<(), ComponentFault>
+    fn end(&mut self, alloc: Global, token: &Token<'a>) -> Result<(), ComponentFault>
         requires { closes token.now.kind ≡ true }
         ensures pieces { OnOk result (nest_pieces self.new ≡ nest_pieces self.old ++ token.now ∷ []) }
         ensures awaited { OnOk result (closed_by token.now.text (nest_awaited self.old) ≡ Some (nest_awaited self.new)) }
@@ -134,19 +148,24 @@ impl<'a> Nest<'a> {
         if token.text != closing_text(opening.text) {
             return Err(ComponentFault::Syntax(token.at));
         }
-        let mut items = mem::replace(&mut self.items, before);
-        items.shrink_to_fit();
+        let mut filled = mem::replace(&mut self.items, before);
+        let items = filled.take_all()?;
+        self.spare.push(filled)?;
         let close = token.at;
-        self.items.push(Component::Block(Block {
-            opening,
-            items,
-            close,
-        }))?;
+        let block = Boxed::new(
+            alloc,
+            Block {
+                opening,
+                items,
+                close,
+            },
+        )?;
+        self.items.push(Component::Block(block))?;
         Ok(())
     }
 
     /// Takes the next token.
-    fn take(&mut self, alloc: Global, token: &Token<'a>) -> Result<(), ComponentFault>
+    pub(crate) fn take(&mut self, alloc: Global, token: &Token<'a>) -> Result<(), ComponentFault>
         requires { length (nest_awaited self.old) ≤ 64 }
         ensures pieces { OnOk result (nest_pieces self.new ≡ nest_pieces self.old ++ token.now ∷ []) }
         ensures awaited { OnOk result (awaited_next (nest_awaited self.old) token.now ≡ Some (nest_awaited self.new)) }
@@ -163,7 +182,7 @@ impl<'a> Nest<'a> {
             return Ok(());
         }
         if closes(token.kind) {
-            return self.end(token);
+            return self.end(alloc, token);
         }
         self.single(token.copy())?;
         Ok(())
@@ -184,11 +203,16 @@ fn paired<'a>(
     let mut nest = Nest {
         outer: Vec::new(alloc),
         items: List::new(alloc),
+        spare: Vec::new(alloc),
     };
     for token in tokens {
         nest.take(alloc, token)?;
     }
-    let Nest { outer, items } = nest;
+    let Nest {
+        outer,
+        items,
+        spare: _,
+    } = nest;
     if outer.is_empty() {
         Ok(items)
     } else {
@@ -222,6 +246,3 @@ pub fn components<'a>(
 pub fn one_pairing()
     ensures { (a b : List Component) → pieces_all a ≡ pieces_all b → IsTrue (all_formed a) → IsTrue (all_formed b) → a ≡ b }
 {}
-
-#[cfg(test)]
-mod tests;

@@ -47,22 +47,3 @@ pub fn is_plain_name(text: &str) -> bool
         }
     }
 }
-
-#[cfg(test)]
-mod tests {
-    use crate::is_plain_name;
-    use std::test::Fail;
-
-    #[test]
-    fn names(rt: HostRuntime) -> Result<(), Fail> {
-        assert!(rt; is_plain_name("a-1"));
-        assert!(rt; is_plain_name("-_"));
-        assert!(rt; is_plain_name("--"));
-        assert!(rt; !is_plain_name(""));
-        assert!(rt; !is_plain_name("-"));
-        assert!(rt; !is_plain_name("-1"));
-        assert!(rt; !is_plain_name("1a"));
-        assert!(rt; !is_plain_name("a b"));
-        Ok(())
-    }
-}

@@ -176,6 +176,3 @@ pub fn write_string(text: &str, out: &mut List<u8>) -> Result<(), OutOfMemory>
 pub fn plain_name()
     ensures { (name : List ℕ) → IsTrue (is_plain_name name) → name_text name ≡ name }
 {}
-
-#[cfg(test)]
-mod tests;

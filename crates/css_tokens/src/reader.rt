@@ -12,6 +12,7 @@ ghost use Rattle.css_tokens.specs.Tokens.{or_else, as_front, longest, classes_of
 
 use crate::class::{Class, classify};
 use crate::content::is_url_name;
+use crate::front::plain_front;
 use crate::machine::{State, kind_at, step};
 use crate::{Kind, List, OutOfMemory, Token};
 use std::alloc::{AllocError, AllocFailed, Global};
@@ -81,7 +82,7 @@ pub fn tokens<'a>(alloc: Global, text: &'a [u8]) -> Result<List<Token<'a>>, Toke
 }
 
 /// The bytes of the byte order mark that the text begins with.
-fn mark_length(text: &[u8]) -> usize
+pub(crate) fn mark_length(text: &[u8]) -> usize
     ensures value { result ≡ mark_length text.now }
     ensures within { result ≤ length text.now }
 {
@@ -94,7 +95,7 @@ fn mark_length(text: &[u8]) -> usize
 
 /// The text, where it is in UTF-8 and has no character that no text may hold, or else the place of the first byte that is
 /// not so.
-fn checked(text: &[u8]) -> Result<&str, usize>
+pub(crate) fn checked(text: &[u8]) -> Result<&str, usize>
     ensures ok { IfOk result (λ s. (s.now ≡ text.now) × (bad_place text.now ≡ None)) }
     ensures err { IfErr result (λ at. bad_place text.now ≡ Some at) }
     ensures within { IfErr result (λ at. at < length text.now) }
@@ -167,7 +168,7 @@ fn all_tokens<'a>(alloc: Global, text: &'a str, start: u32) -> Result<List<Token
 }
 
 /// The token that the text begins with, where it has one that is read.
-fn next_token<'a>(text: &'a str, at: u32) -> Option<Token<'a>>
+pub(crate) fn next_token<'a>(text: &'a str, at: u32) -> Option<Token<'a>>
     requires { 0 < length text.now }
     ensures token { IfSome result (λ token. Begins text.now token) }
     ensures placed { IfSome result (λ token. token.at ≡ at) }
@@ -264,6 +265,9 @@ pub(crate) fn first(text: &[u8]) -> Option<(Kind, usize)>
     ensures value { result ≡ first_front text.now }
     ensures within { IfSome result (λ front. front.1 ≤ length text.now) }
 {
+    if let Some(front) = plain_front(text) {
+        return Some(front);
+    }
     let front = longest_front(State::Start, text)?;
     let (name, rest) = text.split_at(front.1);
     if begins_url(front.0, name, rest) {
@@ -272,6 +276,3 @@ pub(crate) fn first(text: &[u8]) -> Option<(Kind, usize)>
     }
     Some(front)
 }
-
-#[cfg(test)]
-mod tests;

@@ -177,7 +177,7 @@ fn write_component(
 {
     match item {
         Component::Single(token) => write_word(token.kind, token.text, pending, out),
-        Component::Block(block) => write_block(block, pending, out),
+        Component::Block(block) => write_block(block.get(), pending, out),
     }
 }
 
@@ -212,6 +212,3 @@ pub fn printed_again()
     ensures starts { (v cs : List Component) (c : Component) → value_again v ≡ c ∷ cs → IsTrue (is_solid c) }
     ensures ends { (v cs : List Component) (c : Component) → value_again v ≡ cs ++ c ∷ [] → IsTrue (is_solid c) }
 {}
-
-#[cfg(test)]
-mod tests;

@@ -1,4 +1,4 @@
-use Rattle.std.proofs.Common.{◌≡◌, ◌<◌, ◌++◌, ◌∷◌, [], List, ℕ, length, map, subst, rules}
+use Rattle.std.proofs.Common.{◌≡◌, ◌<◌, ◌++◌, ◌∷◌, [], List, ℕ, length, map, subst, rules, ap, ◌∙◌}
 use Rattle.css_tokens.specs.declared.kind.Kind.TheVariants.{Close}
 use Rattle.css_tokens.specs.declared.component.Component as component
 use Rattle.css_tokens.specs.declared.component.Block.{Block}
@@ -43,7 +43,7 @@ pub write_component-returns-in-Block : goal.write_component-returns-in-Block
 write_component-returns-in-Block t c =
     let b : component.Component = c.args.item.now in
     let whole : block_words c.in-Block.block ≡ map word_of (pieces_of b) = search (rules, words_of-Block) in
-    subst (λ (ws : List Word). Writes c.args.pending ws c.args.out.now c.write_block.new.out c.write_block.result) whole c.write_block.ensures
+    subst (λ (ws : List Word). Writes c.args.pending ws c.args.out.now c.write_block.new.out c.write_block.result) (ap block_words c.get.ensures ∙ whole) c.write_block.ensures
 
 pub write_components-returns-in_err-waiting : goal.write_components-returns-in_err-waiting
 write_components-returns-in_err-waiting t c =

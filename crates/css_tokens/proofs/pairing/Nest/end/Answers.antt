@@ -10,7 +10,7 @@ use Rattle.css_tokens.proofs.pairing.Nest.end.Goals as goal
 pub returns-clause-pieces : goal.returns-clause-pieces
 returns-clause-pieces c =
     let old : Nest = c.args.self.now in
-    let new : Nest = record { outer = c.pop.new.self; items = c.push.new.self } in
+    let new : Nest = record { outer = c.pop.new.self; items = c.push-2.new.self; spare = c.push.new.self } in
     let o : Opened = record { before = c.in-Some.opened.before; opening = c.in-Some.opened.opening } in
     let e1 : old.outer.items ≡ new.outer.items ++ o ∷ [] = search rules in
     let e2 : new.items ≡ o.before ++ component.Block (record { opening = o.opening; items = old.items; close = c.args.token.now.at }) ∷ [] = search rules in
@@ -20,7 +20,7 @@ returns-clause-pieces c =
 pub returns-clause-formed : goal.returns-clause-formed
 returns-clause-formed c =
     let old : Nest = c.args.self.now in
-    let new : Nest = record { outer = c.pop.new.self; items = c.push.new.self } in
+    let new : Nest = record { outer = c.pop.new.self; items = c.push-2.new.self; spare = c.push.new.self } in
     let o : Opened = record { before = c.in-Some.opened.before; opening = c.in-Some.opened.opening } in
     let e1 : old.outer.items ≡ new.outer.items ++ o ∷ [] = search rules in
     let e2 : new.items ≡ o.before ++ component.Block (record { opening = o.opening; items = old.items; close = c.args.token.now.at }) ∷ [] = search rules in
