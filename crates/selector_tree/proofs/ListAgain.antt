@@ -1,6 +1,6 @@
 -- Lists that are spelled are read again, and what stands in pseudo-classes.
-use Rattle.std.proofs.Common.{◌≡◌, ℕ, List, [], ◌∷◌, ◌++◌, map, Bool, true, false, not, ◌&&◌, ◌||◌, refl, sym, ap, ap₂, ◌∙◌, append_assoc}
-use Rattle.std.specs.Prelude.{codes, Option, Some, None, is_none, unwrap_or, if◌then◌else◌, Result, Ok, Err}
+use Rattle.std.proofs.Common.{◌≡◌, ℕ, List, [], ◌∷◌, ◌++◌, map, Bool, true, false, not, ◌&&◌, refl, sym, ap, ap₂, ◌∙◌}
+use Rattle.std.specs.Prelude.{codes, Option, Some, None, is_none, unwrap_or, if◌then◌else◌}
 use Rattle.std.specs.List.{AllByRecursion, list_all}
 use Rattle.std.specs.Option.{option_map, option_and_then}
 use Rattle.std.proofs.lemmas.Bool.{and_parts, false≢true}
@@ -9,35 +9,28 @@ use Rattle.std.proofs.lemmas.List.Folds.{list_all-map}
 use Rattle.css_tokens.specs.declared.kind.Kind.{Kind}
 use Rattle.css_tokens.specs.declared.kind.Kind.TheVariants as kinds
 use Rattle.css_tokens.specs.declared.component.Component.{Component}
-use Rattle.css_tokens.specs.declared.component.Component as component
-use Rattle.css_tokens.specs.declared.component.Block as blocks
-use Rattle.css_tokens.specs.Names.{name_of_word}
 use Rattle.css_tokens.specs.NameText.{name_text}
-use Rattle.css_tokens.specs.Piece.{Piece}
-use Rattle.css_tokens.specs.Trees.{is_text}
-use Rattle.selector_tree.specs.declared.selector.Attribute.{Attribute}
-use Rattle.selector_tree.specs.declared.selector.Compound.{Compound}
-use Rattle.selector_tree.specs.declared.selector.Selector.{Selector}
-use Rattle.selector_tree.specs.declared.selector.Simple.{Simple}
-use Rattle.selector_tree.specs.declared.selector.Simple as simple
+use Rattle.selector_types.specs.declared.selector.Attribute.{Attribute}
+use Rattle.selector_types.specs.declared.selector.Compound.{Compound}
+use Rattle.selector_types.specs.declared.selector.Selector.{Selector}
+use Rattle.selector_types.specs.declared.selector.Simple.{Simple}
+use Rattle.selector_types.specs.declared.selector.Simple as simple
 use Rattle.selector_tree.specs.declared.sign.Sign.{Sign}
-use Rattle.selector_tree.specs.declared.sign.Sign.TheVariants.{Comment, White, Comma, Joint, Name, Star, Dot, Colon, Whole, Call, Other}
-use Rattle.selector_tree.specs.Arguments.{attribute_of}
-use Rattle.selector_tree.specs.BareFold.{placed, bare_selector}
-use Rattle.selector_tree.specs.Erased.{erasing, erased, erased_simple, erased_compound}
+use Rattle.selector_tree.specs.declared.sign.Sign.TheVariants.{Comment, White, Whole, Call, Other}
+use Rattle.selector_types.specs.BareFold.{placed, bare_selector}
+use Rattle.selector_types.specs.Erased.{erasing, erased, erased_compound}
 use Rattle.selector_tree.specs.Grammar.{selector_at, Mark, is_gap_sign, is_comma_sign, first_place, selector_of, Member, empty_before, with_mark, cut_at_commas, fault_place, member_reading, first_and, members_reading, marks_reading}
-use Rattle.selector_tree.specs.Names.{is_id}
-use Rattle.selector_tree.specs.ReadableSelectors.{has_some, readable, is_readable_simple, is_readable_compound, is_readable_selector, is_readable_list}
-use Rattle.selector_tree.specs.SelectorFold.{folded_selector, folded-Class, folded-Id, folded-Attribute, folded-Pseudo, folded-Not, folded-Is, folded-Where, folded-Parent, folded-Local, folded-Global, folded-Foreign}
-use Rattle.selector_tree.specs.SelectorInduction.{by_lists, Cases}
-use Rattle.selector_tree.specs.Signs.{attribute_sign, kind_sign, opened_sign, list_in, is_gap, is_gap_kind, forgiving_list, lone_compound, compound_in, read, tokens_of, token_mark, block_mark, mark_of, list_reading, mark_of-Single, mark_of-Block}
-use Rattle.selector_tree.specs.Spelling.{single, block, ident, delim, comma, colon, pseudo_spelling, attribute_spelling, call, more_spelling, spelling, simple_spelling, compound_spelling, selector_spelling, list_spelling}
-use Rattle.selector_tree.proofs.PartAgain.{Texts, marks_of, signs_in, signs_of, is_inner, begins_compound, signs-append, sign-single, sign-around, PartRead, part-by, call-part, as-part, class-part, id-part, attribute-part, pseudo-again}
-use Rattle.selector_tree.proofs.SelectorAgain.{P, Q, R, ks, CompoundRead, SelectorRead, no_comma, inner-comma, links_in, made_selector, untailed, chain-end, unled-selector, compound-read, selector-read}
-use Rattle.selector_tree.proofs.SignPlaces.{bare_mark, both_read, read-first, zero-place}
+use Rattle.selector_types.specs.ReadableSelectors.{has_some, readable, is_readable_compound, is_readable_selector, is_readable_list}
+use Rattle.selector_types.specs.SelectorFold.{folded-Class, folded-Id, folded-Attribute, folded-Pseudo, folded-Not, folded-Is, folded-Where, folded-Parent, folded-Local, folded-Global, folded-Foreign}
+use Rattle.selector_types.specs.SelectorInduction.{by_lists, Cases}
+use Rattle.selector_tree.specs.Signs.{attribute_sign, kind_sign, list_in, is_gap, is_gap_kind, forgiving_list, lone_compound, compound_in, read, mark_of, list_reading, mark_of-Single, mark_of-Block}
+use Rattle.selector_types.specs.Spelling.{single, block, ident, delim, comma, colon, pseudo_spelling, attribute_spelling, call, more_spelling, spelling, simple_spelling, compound_spelling, selector_spelling, list_spelling}
+use Rattle.selector_tree.proofs.PartAgain.{Texts, marks_of, signs_in, signs_of, is_inner, begins_compound, signs-append, sign-single, sign-around, part-by, call-part, as-part, class-part, id-part, attribute-part, pseudo-again}
+use Rattle.selector_tree.proofs.SelectorAgain.{P, Q, R, ks, SelectorRead, no_comma, inner-comma, made_selector, untailed, chain-end, unled-selector, compound-read, selector-read}
+use Rattle.selector_tree.proofs.SignPlaces.{both_read, read-first, zero-place}
 use Rattle.selector_tree.proofs.MarkPlaces.{marks-of-bare}
-use Rattle.selector_tree.proofs.SpellingHolds.{selector-bare, compound-bare}
-use Rattle.selector_tree.proofs.TreePlaces.{bare, by_components}
+use Rattle.selector_types.proofs.SpellingHolds.{selector-bare, compound-bare}
+use Rattle.selector_types.proofs.TreePlaces.{bare, by_components}
 
 -- Members.
 

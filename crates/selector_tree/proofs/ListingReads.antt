@@ -3,7 +3,7 @@ use Rattle.std.proofs.Common.{◌≡◌, ℕ, List, [], ◌∷◌, Bool, true, f
 use Rattle.std.specs.Prelude.{Result, Ok, Err, None, if◌then◌else◌, IsTrue, ◌↔◌}
 use Rattle.std.specs.Option.{option_and_then}
 use Rattle.std.proofs.lemmas.Bool.{false≢true}
-use Rattle.selector_tree.specs.declared.selector.Selector.{Selector}
+use Rattle.selector_types.specs.declared.selector.Selector.{Selector}
 use Rattle.selector_tree.specs.declared.fault.SelectorFault.{SelectorFault}
 use Rattle.selector_tree.specs.declared.fault.SelectorFault.TheVariants as faults
 use Rattle.selector_tree.specs.declared.reading.Listing.{Listing}

@@ -1,5 +1,5 @@
 -- What components read as does not depend on places.
-use Rattle.std.proofs.Common.{◌≡◌, ℕ, List, [], ◌∷◌, ◌++◌, map, Bool, true, false, not, ◌&&◌, ◌||◌, refl, sym, ap, ap₂, ◌∙◌}
+use Rattle.std.proofs.Common.{◌≡◌, ℕ, List, [], ◌∷◌, ◌++◌, map, Bool, true, false, ◌&&◌, refl, sym, ap, ap₂, ◌∙◌}
 use Rattle.std.specs.Prelude.{codes, Option, Some, None, is_none, if◌then◌else◌}
 use Rattle.std.specs.List.{list_all}
 use Rattle.std.specs.Option.{option_map, option_map_or, option_and_then}
@@ -12,27 +12,28 @@ use Rattle.css_tokens.specs.Names.{name_of_word}
 use Rattle.css_tokens.specs.NameText.{name_text}
 use Rattle.css_tokens.specs.Piece.{Piece}
 use Rattle.css_tokens.specs.Trees.{is_text}
-use Rattle.selector_tree.specs.declared.selector.Attribute.{Attribute}
-use Rattle.selector_tree.specs.declared.selector.Compound.{Compound}
-use Rattle.selector_tree.specs.declared.selector.Selector.{Selector}
-use Rattle.selector_tree.specs.declared.selector.Simple.{Simple}
-use Rattle.selector_tree.specs.declared.selector.Link as link
-use Rattle.selector_tree.specs.declared.selector.Simple as simple
-use Rattle.selector_tree.specs.declared.selector.Test.{Test}
-use Rattle.selector_tree.specs.declared.selector.Test.TheVariants as tests
+use Rattle.selector_types.specs.declared.selector.Attribute.{Attribute}
+use Rattle.selector_types.specs.declared.selector.Compound.{Compound}
+use Rattle.selector_types.specs.declared.selector.Selector.{Selector}
+use Rattle.selector_types.specs.declared.selector.Simple.{Simple}
+use Rattle.selector_types.specs.declared.selector.Link as link
+use Rattle.selector_types.specs.declared.selector.Simple as simple
+use Rattle.selector_types.specs.declared.selector.Test.{Test}
+use Rattle.selector_types.specs.declared.selector.Test.TheVariants as tests
 use Rattle.selector_tree.specs.declared.sign.Callee.{Callee}
 use Rattle.selector_tree.specs.declared.sign.Callee.TheVariants as callees
 use Rattle.selector_tree.specs.declared.sign.Sign.{Sign}
 use Rattle.selector_tree.specs.declared.sign.Sign.TheVariants as signs
-use Rattle.selector_tree.specs.declared.selector.Combinator.TheVariants as combinators
-use Rattle.selector_tree.specs.SelectorFold.{folded-Id, folded-Attribute, folded-Pseudo, folded-Not, folded-Is, folded-Where, folded-Parent, folded-Local, folded-Global, folded-Foreign}
-use Rattle.selector_tree.specs.Arguments.{after_white, is_white, is_white_kind, name_in, is_delim, test_of, value_in_kind, is_flag, flagged, valued, operated, named, begun, attribute_of, lone, lone_name, kind_text, text_before, texts_of, is_an_plus_b, after_spaces, an_plus_b}
-use Rattle.selector_tree.specs.Erased.{erasing, erased, erased_simple, erased_compound, erased_link, erased-compound, erased-selector}
+use Rattle.selector_types.specs.declared.selector.Combinator.TheVariants as combinators
+use Rattle.selector_types.specs.SelectorFold.{folded-Id, folded-Attribute, folded-Pseudo, folded-Not, folded-Is, folded-Where, folded-Parent, folded-Local, folded-Global, folded-Foreign}
+use Rattle.selector_types.specs.AnPlusB.{is_an_plus_b, after_spaces}
+use Rattle.selector_tokens.specs.Arguments.{after_white, is_white, is_white_kind, name_in, is_delim, test_of, value_in_kind, is_flag, flagged, valued, operated, named, begun, attribute_of, lone, lone_name, kind_text, text_before, texts_of, an_plus_b}
+use Rattle.selector_types.specs.Erased.{erasing, erased, erased_simple, erased_compound, erased_link, erased-compound, erased-selector}
 use Rattle.selector_tree.specs.Grammar.{Mark, marks_reading}
-use Rattle.selector_tree.specs.Names.{is_id, lowered}
-use Rattle.selector_tree.specs.Signs.{kind_sign, delim_sign, id_sign, is_comment_kind, token_before, tokens_of, read, list_in, is_gap, forgiving_list, has_no_link, lone_compound, compound_in, with_argument, argued, call_by, call_of, callee_of, attribute_sign, opened_sign, token_mark, block_mark, mark_of, list_reading, mark_of-Single, mark_of-Block}
+use Rattle.selector_types.specs.Names.{is_id, lowered}
+use Rattle.selector_tree.specs.Signs.{kind_sign, is_comment_kind, token_before, tokens_of, read, list_in, is_gap, forgiving_list, has_no_link, lone_compound, compound_in, argued, call_by, callee_of, attribute_sign, opened_sign, block_mark, mark_of, list_reading, mark_of-Single, mark_of-Block}
 use Rattle.selector_tree.proofs.SignPlaces.{bare_sign, bare_mark, marks-bare}
-use Rattle.selector_tree.proofs.TreePlaces.{placeless, bare, bare_block, bare-Single, bare-Block, Each, every, by_components}
+use Rattle.selector_types.proofs.TreePlaces.{placeless, bare, bare_block, bare-Single, bare-Block, Each, every, by_components}
 
 -- Tokens in a block.
 

@@ -1,6 +1,6 @@
 -- What is read from components has a spelling that is read as it, where nothing in it cannot be written.
 use Rattle.std.proofs.Common.{◌≡◌, ℕ, List, [], ◌∷◌, ◌++◌, map, Bool, true, false, not, ◌&&◌, ◌||◌, refl, sym, ap, ap₂, ◌∙◌, subst}
-use Rattle.std.specs.Prelude.{codes, Option, Some, None, is_none, is_some, if◌then◌else◌, Result, Ok, Err}
+use Rattle.std.specs.Prelude.{codes, Option, Some, None, is_none, is_some, if◌then◌else◌, Result, Ok}
 use Rattle.std.specs.List.{AllByRecursion, list_all}
 use Rattle.std.specs.Option.{option_map, option_and_then}
 use Rattle.std.proofs.lemmas.Bool.{and_parts, false≢true}
@@ -13,34 +13,33 @@ use Rattle.css_tokens.specs.declared.component.Component as component
 use Rattle.css_tokens.specs.declared.component.Block as block
 use Rattle.css_tokens.specs.Names.{is_name, name_of_word}
 use Rattle.css_tokens.specs.NameText.{name_text}
-use Rattle.css_tokens.specs.Piece.{Piece, Word, word_of}
+use Rattle.css_tokens.specs.Piece.{Piece, word_of}
 use Rattle.css_tokens.specs.Trees.{closing, is_text, pieces_of, pieces_all, words_all, pieces_of-Single, pieces_of-Block}
-use Rattle.selector_tree.specs.declared.selector.Attribute.{Attribute}
-use Rattle.selector_tree.specs.declared.selector.Compound.{Compound}
-use Rattle.selector_tree.specs.declared.selector.Link as link
-use Rattle.selector_tree.specs.declared.selector.Selector.{Selector}
-use Rattle.selector_tree.specs.declared.selector.Simple.{Simple}
-use Rattle.selector_tree.specs.declared.selector.Simple as simple
-use Rattle.selector_tree.specs.declared.selector.Combinator.{Combinator}
-use Rattle.selector_tree.specs.declared.selector.Combinator.TheVariants as combinators
-use Rattle.selector_tree.specs.declared.selector.Tail.{Tail}
+use Rattle.selector_types.specs.declared.selector.Attribute.{Attribute}
+use Rattle.selector_types.specs.declared.selector.Compound.{Compound}
+use Rattle.selector_types.specs.declared.selector.Link as link
+use Rattle.selector_types.specs.declared.selector.Selector.{Selector}
+use Rattle.selector_types.specs.declared.selector.Simple.{Simple}
+use Rattle.selector_types.specs.declared.selector.Simple as simple
+use Rattle.selector_types.specs.declared.selector.Combinator.{Combinator}
+use Rattle.selector_types.specs.declared.selector.Combinator.TheVariants as combinators
+use Rattle.selector_types.specs.declared.selector.Tail.{Tail}
 use Rattle.selector_tree.specs.declared.sign.Callee.{Callee}
 use Rattle.selector_tree.specs.declared.sign.Callee.TheVariants as callees
-use Rattle.selector_tree.specs.declared.sign.Sign.{Sign}
 use Rattle.selector_tree.specs.declared.sign.Sign.TheVariants as signs
-use Rattle.selector_tree.specs.Arguments.{an_plus_b, attribute_of, lone_name}
-use Rattle.selector_tree.specs.BareFold.{placed, bare_selector}
-use Rattle.selector_tree.specs.Grammar.{Mark, marks_reading}
-use Rattle.selector_tree.specs.Names.{is_id, lowered}
-use Rattle.selector_tree.specs.ReadableSelectors.{has_some, has_type, is_readable_type, is_readable_tail, is_readable_value, is_named, is_clean, is_spelled, readable, is_readable_simple, is_readable_compound, is_readable_selector, is_readable_list, writable, is_writable_simple, is_writable_compound, is_writable_selector, is_writable_list, are_readable, is_readable_lead}
-use Rattle.selector_tree.specs.SelectorFold.{made_link, folded-Id, folded-Attribute, folded-Pseudo, folded-Not, folded-Is, folded-Where, folded-Parent, folded-Local, folded-Global, folded-Selector}
-use Rattle.selector_tree.specs.Signs.{kind_sign, is_comment_kind, token_before, tokens_of, read, list_in, is_gap, forgiving_list, has_no_link, lone_compound, compound_in, with_argument, argued, callee_of, call_by, call_of, attribute_sign, opened_sign, token_mark, block_mark, mark_of, list_reading, mark_of-Single, mark_of-Block}
+use Rattle.selector_tokens.specs.Arguments.{an_plus_b, attribute_of, lone_name}
+use Rattle.selector_types.specs.BareFold.{placed, bare_selector}
+use Rattle.selector_tree.specs.Grammar.{Mark}
+use Rattle.selector_types.specs.Names.{is_id, lowered}
+use Rattle.selector_types.specs.ReadableSelectors.{has_some, has_type, is_readable_type, is_readable_tail, is_named, is_clean, is_spelled, readable, is_readable_compound, is_readable_selector, is_readable_list, writable, is_writable_compound, is_writable_list, are_readable, is_readable_lead}
+use Rattle.selector_types.specs.SelectorFold.{made_link, folded-Id, folded-Attribute, folded-Pseudo, folded-Not, folded-Is, folded-Where, folded-Parent, folded-Local, folded-Global, folded-Selector}
+use Rattle.selector_tree.specs.Signs.{kind_sign, is_comment_kind, token_before, tokens_of, read, list_in, is_gap, forgiving_list, has_no_link, lone_compound, compound_in, argued, callee_of, call_by, attribute_sign, opened_sign, mark_of, list_reading, mark_of-Single, mark_of-Block}
 use Rattle.selector_tree.proofs.NamesAgain.{name-kept}
 use Rattle.selector_tree.proofs.SelectorAgain.{simples_in, compound-asks}
 use Rattle.selector_tree.proofs.SignsReadable.{SimpleGood, SignGood, SelectorGood, ListGood, MarkSigns, foreign-good, list-good}
 use Rattle.selector_tree.proofs.StepReadable.{IsStep, step-readable}
 use Rattle.selector_tree.proofs.TokensReadable.{AreGood, AttributeGood, CalleeGood, IsGood, IsName, Meanings, OfSome, attribute-good, callee-good, lone_name-good, some-also, some-map, some-then}
-use Rattle.selector_tree.proofs.TreePlaces.{Each, by_components}
+use Rattle.selector_types.proofs.TreePlaces.{Each, by_components}
 
 -- Marks whose sign is good, and whose token means what can be written.
 

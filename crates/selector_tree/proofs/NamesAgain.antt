@@ -1,21 +1,15 @@
 -- What the texts of names mean: what is kept of a name is kept of that again.
-use Rattle.std.proofs.Common.{◌≡◌, ℕ, ◌<◌, ◌≤◌, ◌+◌, ◌/◌, List, [], ◌∷◌, ◌++◌, Bool, true, false, not, ◌&&◌, ◌||◌, ltb, cond, refl, sym, ap, ap₂, ◌∙◌, subst, inl, inr, arith, codes, nat_eq, ltb-true, ltb-false}
-use Rattle.std.specs.Char.{encode_utf8, is_ascii_digit, to_ascii_lowercase}
-use Rattle.std.specs.Fmt.{digits}
-use Rattle.std.specs.List.{flat_map, list_all}
-use Rattle.std.specs.Str.{IsUtf8, chars, is_utf8}
-use Rattle.std.proofs.lemmas.Bool.{cases_Bool, and_parts, or_cases, agree_below_at, eqb-true, false≢true}
+use Rattle.std.proofs.Common.{◌≡◌, ℕ, List, [], ◌∷◌, true, ◌&&◌, refl, ap, ap₂, ◌∙◌, arith}
+use Rattle.std.specs.Char.{to_ascii_lowercase}
 use Rattle.std.proofs.lemmas.Bool.Decides.{nat_tests}
-use Rattle.std.proofs.lemmas.Str.{IsUtf8-from_is_utf8, encodes-chars}
 use lib.Pointwise.{bytes_decides}
-use lib.Utf8.{encode, encodes, next}
-use Rattle.css_tokens.specs.NameText.{char_text, first_text, needs_code, stands_for_itself, code_escape, name_text, chars_text, after_dash}
+use Rattle.css_tokens.specs.NameText.{name_text}
 use Rattle.css_tokens.specs.Names.{is_name, name_of_word}
 use Rattle.css_tokens.specs.Trees.{is_text}
 use Rattle.css_tokens.specs.declared.kind.Kind.TheVariants as kinds
-use Rattle.selector_tree.specs.Names.{lowered, pseudo_text}
-use Rattle.selector_tree.specs.ReadableSelectors.{name_in_text, is_name_text, is_pseudo_text}
-use Rattle.selector_tree.proofs.LowerNames.{lower-name}
+use Rattle.selector_types.specs.Names.{lowered, pseudo_text}
+use Rattle.selector_types.specs.ReadableSelectors.{name_in_text, is_name_text, is_pseudo_text}
+use Rattle.selector_types.proofs.LowerNames.{lower-name}
 
 -- A name in lower case is in lower case.
 

@@ -1,52 +1,37 @@
 -- Simple selectors that are spelled are read again, as parts.
-use Rattle.std.proofs.Common.{◌≡◌, ℕ, List, [], ◌∷◌, ◌++◌, map, Bool, true, false, not, ◌&&◌, ◌||◌, refl, sym, ap, ap₂, ◌∙◌, subst, append_assoc}
-use Rattle.std.specs.Prelude.{codes, Option, Some, None, is_none, is_some, unwrap_or, flat_map, if◌then◌else◌, Result, Ok, Err}
-use Rattle.std.specs.List.{AllByRecursion, list_all}
+use Rattle.std.proofs.Common.{◌≡◌, ℕ, List, [], ◌∷◌, ◌++◌, map, Bool, true, false, not, ◌&&◌, refl, sym, ap, ap₂, ◌∙◌, subst, append_assoc}
+use Rattle.std.specs.Prelude.{codes, Option, Some, None, if◌then◌else◌}
+use Rattle.std.specs.List.{list_all}
 use Rattle.std.specs.Option.{option_map, option_map_or, option_and_then}
 use Rattle.std.proofs.lemmas.Bool.{and_parts, false≢true}
-use Rattle.std.proofs.lemmas.List.{map-append, append-nil}
+use Rattle.std.proofs.lemmas.List.{map-append}
 use Rattle.std.proofs.lemmas.List.Folds.{list_all-append}
 use lib.Pointwise.{bytes_decides}
 use Rattle.css_tokens.specs.declared.kind.Kind.{Kind}
 use Rattle.css_tokens.specs.declared.kind.Kind.TheVariants as kinds
 use Rattle.css_tokens.specs.declared.component.Component.{Component}
-use Rattle.css_tokens.specs.declared.component.Component as component
-use Rattle.css_tokens.specs.declared.component.Block as block_type
 use Rattle.css_tokens.specs.Names.{is_content, is_name, name_of_word, starts_ident}
 use Rattle.css_tokens.specs.NameText.{name_text}
 use Rattle.css_tokens.specs.Piece.{Piece}
 use Rattle.css_tokens.specs.StringText.{string_text}
 use Rattle.css_tokens.specs.Trees.{is_text}
-use Rattle.selector_tree.specs.declared.selector.Attribute.{Attribute}
-use Rattle.selector_tree.specs.declared.selector.Combinator.{Combinator}
-use Rattle.selector_tree.specs.declared.selector.Combinator.TheVariants as combinators
-use Rattle.selector_tree.specs.declared.selector.Compound.{Compound}
-use Rattle.selector_tree.specs.declared.selector.Link as link
-use Rattle.selector_tree.specs.declared.selector.Part as part
-use Rattle.selector_tree.specs.declared.selector.Selector.{Selector}
-use Rattle.selector_tree.specs.declared.selector.Simple.{Simple}
-use Rattle.selector_tree.specs.declared.selector.Simple as simple
-use Rattle.selector_tree.specs.declared.selector.Tail.{Tail}
-use Rattle.selector_tree.specs.declared.selector.Test.{Test}
-use Rattle.selector_tree.specs.declared.selector.Test.TheVariants as tests
-use Rattle.selector_tree.specs.declared.selector.TypeName.{TypeName}
-use Rattle.selector_tree.specs.declared.selector.TypeName.TheVariants as types
+use Rattle.selector_types.specs.declared.selector.Attribute.{Attribute}
+use Rattle.selector_types.specs.declared.selector.Simple.{Simple}
+use Rattle.selector_types.specs.declared.selector.Simple as simple
+use Rattle.selector_types.specs.declared.selector.Test.{Test}
+use Rattle.selector_types.specs.declared.selector.Test.TheVariants as tests
 use Rattle.selector_tree.specs.declared.sign.Callee.{Callee}
 use Rattle.selector_tree.specs.declared.sign.Callee.TheVariants as callees
 use Rattle.selector_tree.specs.declared.sign.Sign.{Sign}
-use Rattle.selector_tree.specs.declared.sign.Sign.TheVariants.{Comment, White, Comma, Joint, Name, Star, Dot, Colon, Whole, Call, Other}
-use Rattle.selector_tree.specs.Arguments.{an_plus_b, attribute_of, lone_name}
-use Rattle.selector_tree.specs.BareFold.{placed}
-use Rattle.selector_tree.specs.Erased.{erasing, erased, erased_simple, erased_compound, erased_part, erased_link, erased-compound, erased-selector}
-use Rattle.selector_tree.specs.Grammar.{Body, with_part, tailed, states_of, body_of, compound_with, is_old_element, stripped, white_before, spaced, Runs, cut_by, run_before, runs_of, Step, stands_before, with_step, steps_of, link_of, selector_with, lead_of, behind_lead, selector_of_runs, selector_at, Mark, is_comma_sign, first_place, selector_of, Member, cut_at_commas, fault_place, member_reading, first_and, members_reading, marks_reading}
-use Rattle.selector_tree.specs.Grammar as grammar
-use Rattle.selector_tree.specs.Names.{is_id, lowered, pseudo_text}
-use Rattle.selector_tree.specs.ReadableSelectors.{name_in_text, is_name_text, is_pseudo_text, is_step_text, is_argument_text, is_pseudo_of, is_readable_pseudo, is_readable_value, is_readable_attribute, is_readable_type, has_type, has_some, is_readable_tail, is_readable_lead, are_readable, readable, is_readable_simple, is_readable_compound, is_readable_selector, is_readable_list}
-use Rattle.selector_tree.specs.SelectorFold.{made_part, made_link, simple_of, compound_of, combinator_of, folded-Class, folded-Id, folded-Attribute, folded-Pseudo, folded-Not, folded-Is, folded-Where, folded-Parent, folded-Local, folded-Global, folded-Foreign, folded-Compound, folded-Selector}
-use Rattle.selector_tree.specs.SelectorInduction.{by_lists, Cases}
-use Rattle.selector_tree.specs.Signs.{attribute_sign, kind_sign, opened_sign, callee_of, call_by, call_of, argued, list_in, is_gap, forgiving_list, lone_compound, compound_in, tokens_of, read, token_mark, block_mark, mark_of, list_reading, mark_of-Single, mark_of-Block}
-use Rattle.selector_tree.specs.Spelling.{single, block, ident, delim, space, comma, colon, type_spelling, value_spelling, test_spelling, attribute_spelling, behind, before_close, text_functions, step_spelling, argument_spelling, pseudo_from, pseudo_spelling, state_spelling, tail_spelling, call, ends_in_dashes, text_of, combinator_spelling, links_spelling, lead_spelling, more_spelling, commas_between, spelling, simple_spelling, compound_spelling, selector_spelling, list_spelling}
-use Rattle.selector_tree.proofs.SpellingTexts.{maybe, behind-whole, argument-in}
+use Rattle.selector_tree.specs.declared.sign.Sign.TheVariants.{Comment, White, Comma, Joint, Name, Dot, Colon, Whole, Call, Other}
+use Rattle.selector_tokens.specs.Arguments.{an_plus_b, attribute_of, lone_name}
+use Rattle.selector_types.specs.Erased.{erased_simple}
+use Rattle.selector_types.specs.Names.{is_old_element, lowered, pseudo_text}
+use Rattle.selector_tree.specs.Grammar.{Body, with_part, tailed, states_of, body_of, stripped, white_before, spaced, Runs, run_before, runs_of, lead_of, behind_lead, Mark}
+use Rattle.selector_types.specs.ReadableSelectors.{name_in_text, is_name_text, is_pseudo_text, is_step_text, is_argument_text, is_pseudo_of, is_readable_pseudo, is_readable_value, is_readable_attribute}
+use Rattle.selector_tree.specs.Signs.{attribute_sign, kind_sign, opened_sign, callee_of, call_by, call_of, argued, tokens_of, token_mark, block_mark, mark_of, mark_of-Single, mark_of-Block}
+use Rattle.selector_types.specs.Spelling.{single, block, ident, delim, colon, test_spelling, attribute_spelling, behind, before_close, text_functions, step_spelling, argument_spelling, pseudo_from, pseudo_spelling}
+use Rattle.selector_types.proofs.SpellingTexts.{maybe, behind-whole, argument-in}
 
 -- what the texts of names, of strings and of AN+B mean
 pub record Texts : Type 0 where

@@ -1,47 +1,37 @@
 -- Compounds, selectors and lists that are spelled are read again.
 use Rattle.std.proofs.Common.{◌≡◌, ℕ, List, [], ◌∷◌, ◌++◌, map, Bool, true, false, not, ◌&&◌, ◌||◌, refl, sym, ap, ap₂, ◌∙◌, append_assoc}
-use Rattle.std.specs.Prelude.{codes, Option, Some, None, is_none, is_some, unwrap_or, flat_map, if◌then◌else◌, Result, Ok, Err}
+use Rattle.std.specs.Prelude.{codes, Option, Some, None, is_some, flat_map, if◌then◌else◌}
 use Rattle.std.specs.List.{AllByRecursion, list_all}
-use Rattle.std.specs.Option.{option_map, option_and_then}
+use Rattle.std.specs.Option.{option_map}
 use Rattle.std.proofs.lemmas.Bool.{and_parts, false≢true}
-use Rattle.std.proofs.lemmas.List.{map-append, append-nil}
-use Rattle.css_tokens.specs.declared.kind.Kind.{Kind}
+use Rattle.std.proofs.lemmas.List.{append-nil}
 use Rattle.css_tokens.specs.declared.kind.Kind.TheVariants as kinds
 use Rattle.css_tokens.specs.declared.component.Component.{Component}
-use Rattle.css_tokens.specs.declared.component.Component as component
-use Rattle.css_tokens.specs.declared.component.Block as blocks
-use Rattle.css_tokens.specs.Names.{is_name, name_of_word}
+use Rattle.css_tokens.specs.Names.{is_name}
 use Rattle.css_tokens.specs.NameText.{name_text}
-use Rattle.css_tokens.specs.Piece.{Piece}
 use Rattle.css_tokens.specs.Trees.{is_text}
-use Rattle.selector_tree.specs.declared.selector.Combinator.{Combinator}
-use Rattle.selector_tree.specs.declared.selector.Combinator.TheVariants as combinators
-use Rattle.selector_tree.specs.declared.selector.Compound.{Compound}
-use Rattle.selector_tree.specs.declared.selector.Link as link
-use Rattle.selector_tree.specs.declared.selector.Part as part
-use Rattle.selector_tree.specs.declared.selector.Selector.{Selector}
-use Rattle.selector_tree.specs.declared.selector.Simple.{Simple}
-use Rattle.selector_tree.specs.declared.selector.Simple as simple
-use Rattle.selector_tree.specs.declared.selector.Tail.{Tail}
-use Rattle.selector_tree.specs.declared.selector.TypeName.{TypeName}
-use Rattle.selector_tree.specs.declared.selector.TypeName.TheVariants as types
+use Rattle.selector_types.specs.declared.selector.Combinator.{Combinator}
+use Rattle.selector_types.specs.declared.selector.Combinator.TheVariants as combinators
+use Rattle.selector_types.specs.declared.selector.Compound.{Compound}
+use Rattle.selector_types.specs.declared.selector.Link as link
+use Rattle.selector_types.specs.declared.selector.Part as part
+use Rattle.selector_types.specs.declared.selector.Selector.{Selector}
+use Rattle.selector_types.specs.declared.selector.Simple.{Simple}
+use Rattle.selector_types.specs.declared.selector.Tail.{Tail}
+use Rattle.selector_types.specs.declared.selector.TypeName.{TypeName}
+use Rattle.selector_types.specs.declared.selector.TypeName.TheVariants as types
 use Rattle.selector_tree.specs.declared.sign.Sign.{Sign}
-use Rattle.selector_tree.specs.declared.sign.Sign.TheVariants.{Comment, White, Comma, Joint, Name, Star, Dot, Colon, Whole, Call, Other}
-use Rattle.selector_tree.specs.BareFold.{placed}
-use Rattle.selector_tree.specs.Erased.{erasing, erased, erased_simple, erased_compound, erased_part, erased_link, erased-compound, erased-selector}
-use Rattle.selector_tree.specs.Grammar.{Body, with_part, tailed, states_of, body_of, compound_with, is_old_element, stripped, white_before, spaced, Runs, cut_by, run_before, runs_of, Step, stands_before, with_step, steps_of, link_of, selector_with, lead_of, behind_lead, selector_of_runs, selector_at, Mark, is_gap_sign, is_comma_sign, first_place, selector_of, Member, empty_before, with_mark, cut_at_commas, fault_place, member_reading, first_and, members_reading, marks_reading}
+use Rattle.selector_tree.specs.declared.sign.Sign.TheVariants.{White, Comma, Joint, Name, Star, Dot, Colon, Whole}
+use Rattle.selector_types.specs.BareFold.{placed}
+use Rattle.selector_types.specs.Erased.{erased, erased_simple, erased_compound, erased_part, erased_link, erased-compound, erased-selector}
+use Rattle.selector_types.specs.Names.{pseudo_text}
+use Rattle.selector_tree.specs.Grammar.{Body, with_part, tailed, states_of, body_of, compound_with, stripped, white_before, spaced, Runs, cut_by, run_before, runs_of, Step, stands_before, with_step, steps_of, link_of, selector_with, lead_of, behind_lead, selector_of_runs, selector_at, Mark, is_gap_sign, is_comma_sign, first_place, selector_of, Member, empty_before, with_mark, cut_at_commas, fault_place, member_reading, first_and, members_reading, marks_reading}
 use Rattle.selector_tree.specs.Grammar as grammar
-use Rattle.selector_tree.specs.Names.{pseudo_text, is_id}
-use Rattle.selector_tree.specs.ReadableSelectors.{name_in_text, is_pseudo_text, is_readable_attribute, is_readable_pseudo, is_readable_type, has_type, has_some, is_readable_tail, is_readable_lead, are_readable, readable, is_readable_simple, is_readable_compound, is_readable_selector, is_readable_list}
-use Rattle.selector_tree.specs.SelectorFold.{made_part, made_link, simple_of, compound_of, combinator_of, folded-Class, folded-Id, folded-Attribute, folded-Pseudo, folded-Not, folded-Is, folded-Where, folded-Parent, folded-Local, folded-Global, folded-Foreign, folded-Compound, folded-Selector}
-use Rattle.selector_tree.specs.SelectorInduction.{by_lists, Cases}
-use Rattle.selector_tree.specs.Signs.{kind_sign, opened_sign, call_of, list_in, is_gap, is_gap_kind, forgiving_list, lone_compound, compound_in, read, token_mark, block_mark, mark_of, list_reading, mark_of-Single, mark_of-Block}
-use Rattle.selector_tree.specs.Spelling.{single, block, ident, delim, space, comma, colon, type_spelling, state_spelling, tail_spelling, call, ends_in_dashes, text_of, combinator_spelling, links_spelling, lead_spelling, more_spelling, commas_between, spelling, simple_spelling, compound_spelling, selector_spelling, list_spelling}
-use Rattle.selector_tree.proofs.PartAgain.{Texts, marks_of, signs_in, signs_of, is_inner, begins_part, begins_compound, part-compound, signs-append, sign-single, sign-around, spaced-inner, stripped-inner, white-inner, lead-inner, behind-inner, runs-inner, in_front, all-both, PartRead, part-by, whole-part, call-part, as-part, same-text, class-part, id-part, attribute-part, pseudo-again}
-use Rattle.selector_tree.proofs.SignPlaces.{bare_mark, both_read, read-first, zero-place}
-use Rattle.selector_tree.proofs.MarkPlaces.{marks-of-bare}
-use Rattle.selector_tree.proofs.SpellingHolds.{selector-bare, compound-bare}
-use Rattle.selector_tree.proofs.TreePlaces.{bare, by_components}
+use Rattle.selector_types.specs.ReadableSelectors.{name_in_text, is_pseudo_text, is_readable_type, has_type, has_some, is_readable_tail, is_readable_lead, are_readable, readable, is_readable_simple, is_readable_compound, is_readable_selector}
+use Rattle.selector_types.specs.SelectorFold.{made_part, made_link, simple_of, compound_of, combinator_of, folded-Compound, folded-Selector}
+use Rattle.selector_tree.specs.Signs.{kind_sign}
+use Rattle.selector_types.specs.Spelling.{single, delim, colon, type_spelling, state_spelling, tail_spelling, ends_in_dashes, text_of, combinator_spelling, links_spelling, lead_spelling, spelling, simple_spelling, compound_spelling, selector_spelling}
+use Rattle.selector_tree.proofs.PartAgain.{Texts, signs_of, is_inner, begins_part, begins_compound, part-compound, signs-append, sign-single, spaced-inner, stripped-inner, white-inner, lead-inner, behind-inner, runs-inner, in_front, all-both, PartRead, same-text}
 
 -- Combinators.
 

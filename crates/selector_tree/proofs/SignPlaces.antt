@@ -1,29 +1,27 @@
 -- What signs and marks read as does not depend on places.
-use Rattle.std.proofs.Common.{◌≡◌, ℕ, List, [], ◌∷◌, ◌++◌, map, Bool, true, false, not, ◌&&◌, refl, sym, ap, ap₂, ◌∙◌}
+use Rattle.std.proofs.Common.{◌≡◌, ℕ, List, [], ◌∷◌, map, Bool, true, false, not, refl, sym, ap, ap₂, ◌∙◌}
 use Rattle.std.specs.Prelude.{Option, Some, None, unwrap_or, if◌then◌else◌, Result, Ok, Err}
 use Rattle.std.specs.List.{find}
 use Rattle.std.specs.Option.{option_map}
-use Rattle.css_tokens.specs.Piece.{Piece}
-use Rattle.selector_tree.specs.declared.selector.Combinator.{Combinator}
-use Rattle.selector_tree.specs.declared.selector.Combinator.TheVariants as combinators
-use Rattle.selector_tree.specs.declared.selector.Link.TheVariants.{outs-Linked}
-use Rattle.selector_tree.specs.declared.selector.TypeName.{TypeName}
-use Rattle.selector_tree.specs.declared.selector.TypeName.TheVariants as types
-use Rattle.selector_tree.specs.declared.selector.Simple.{Simple}
-use Rattle.selector_tree.specs.declared.selector.Simple as simple
-use Rattle.selector_tree.specs.declared.selector.Part as part
-use Rattle.selector_tree.specs.declared.selector.Link as link
-use Rattle.selector_tree.specs.declared.selector.Tail.{Tail}
-use Rattle.selector_tree.specs.declared.selector.Compound.{Compound}
-use Rattle.selector_tree.specs.declared.selector.Selector.{Selector}
+use Rattle.selector_types.specs.declared.selector.Combinator.{Combinator}
+use Rattle.selector_types.specs.declared.selector.Link.TheVariants.{outs-Linked}
+use Rattle.selector_types.specs.declared.selector.TypeName.{TypeName}
+use Rattle.selector_types.specs.declared.selector.TypeName.TheVariants as types
+use Rattle.selector_types.specs.declared.selector.Simple.{Simple}
+use Rattle.selector_types.specs.declared.selector.Simple as simple
+use Rattle.selector_types.specs.declared.selector.Part as part
+use Rattle.selector_types.specs.declared.selector.Link as link
+use Rattle.selector_types.specs.declared.selector.Tail.{Tail}
+use Rattle.selector_types.specs.declared.selector.Compound.{Compound}
+use Rattle.selector_types.specs.declared.selector.Selector.{Selector}
 use Rattle.selector_tree.specs.declared.sign.Sign.{Sign}
 use Rattle.selector_tree.specs.declared.sign.Sign.TheVariants.{Comment, White, Comma, Joint, Name, Star, Dot, Colon, Whole, Call, Other}
-use Rattle.selector_tree.specs.SelectorFold.{layer_combinator, layer_compound, folded-Class, folded-Pseudo, folded-Foreign}
-use Rattle.selector_tree.specs.Erased.{erasing, erased, erased_simple, erased_compound, erased_part, erased_link, erased-compound, erased-selector}
-use Rattle.selector_tree.specs.Names.{pseudo_text}
-use Rattle.selector_tree.specs.Grammar.{Body, with_part, tailed, states_of, body_of, compound_with, compound_of, is_old_element, stripped, white_before, sign_before, spaced, Runs, run_before, runs_of, Step, stands_before, with_step, steps_of, link_of, selector_with, lead_of, behind_lead, selector_of_runs, selector_at, Mark, is_gap_sign, is_comma_sign, first_place, selector_of, Member, empty_before, with_mark, cut_at_commas, fault_place, or_fault, member_reading, first_and, members_reading, marks_reading}
+use Rattle.selector_types.specs.SelectorFold.{layer_combinator, layer_compound, folded-Class, folded-Pseudo, folded-Foreign}
+use Rattle.selector_types.specs.Erased.{erasing, erased, erased_simple, erased_compound, erased_part, erased_link, erased-compound, erased-selector}
+use Rattle.selector_types.specs.Names.{is_old_element, pseudo_text}
+use Rattle.selector_tree.specs.Grammar.{Body, with_part, tailed, states_of, body_of, compound_with, compound_of, stripped, white_before, sign_before, spaced, Runs, run_before, runs_of, Step, stands_before, with_step, steps_of, link_of, selector_with, lead_of, behind_lead, selector_of_runs, selector_at, Mark, is_gap_sign, is_comma_sign, first_place, selector_of, Member, empty_before, with_mark, cut_at_commas, fault_place, or_fault, member_reading, first_and, members_reading, marks_reading}
 use Rattle.selector_tree.specs.Signs.{read}
-use Rattle.selector_tree.proofs.TreePlaces.{placeless}
+use Rattle.selector_types.proofs.TreePlaces.{placeless}
 
 -- Signs and marks with each place at 0.
 

@@ -4,17 +4,17 @@ use Rattle.std.specs.Prelude.{Option, Some, None, unwrap_or, if◌then◌else◌
 use Rattle.std.specs.List.{find}
 use Rattle.std.specs.Option.{option_map, option_or}
 use Rattle.std.proofs.lemmas.List.{append-nil}
-use Rattle.selector_tree.specs.declared.selector.Combinator.{Combinator}
-use Rattle.selector_tree.specs.declared.selector.Combinator.TheVariants as combinators
-use Rattle.selector_tree.specs.declared.selector.TypeName.{TypeName}
-use Rattle.selector_tree.specs.declared.selector.TypeName.TheVariants as types
-use Rattle.selector_tree.specs.declared.selector.Simple.{Simple}
-use Rattle.selector_tree.specs.declared.selector.Simple as simple
-use Rattle.selector_tree.specs.declared.selector.Part as part
-use Rattle.selector_tree.specs.declared.selector.Link as link
-use Rattle.selector_tree.specs.declared.selector.Tail.{Tail}
-use Rattle.selector_tree.specs.declared.selector.Compound.{Compound}
-use Rattle.selector_tree.specs.declared.selector.Selector.{Selector}
+use Rattle.selector_types.specs.declared.selector.Combinator.{Combinator}
+use Rattle.selector_types.specs.declared.selector.Combinator.TheVariants as combinators
+use Rattle.selector_types.specs.declared.selector.TypeName.{TypeName}
+use Rattle.selector_types.specs.declared.selector.TypeName.TheVariants as types
+use Rattle.selector_types.specs.declared.selector.Simple.{Simple}
+use Rattle.selector_types.specs.declared.selector.Simple as simple
+use Rattle.selector_types.specs.declared.selector.Part as part
+use Rattle.selector_types.specs.declared.selector.Link as link
+use Rattle.selector_types.specs.declared.selector.Tail.{Tail}
+use Rattle.selector_types.specs.declared.selector.Compound.{Compound}
+use Rattle.selector_types.specs.declared.selector.Selector.{Selector}
 use Rattle.selector_tree.specs.declared.sign.Sign.{Sign}
 use Rattle.selector_tree.specs.declared.sign.Sign.TheVariants.{Comment, White, Comma, Joint, Name, Star, Dot, Colon, Whole, Call, Other}
 use Rattle.selector_tree.specs.declared.reading.Front.{Front}
@@ -23,8 +23,8 @@ use Rattle.selector_tree.specs.declared.reading.Phase.{Phase}
 use Rattle.selector_tree.specs.declared.reading.Phase.TheVariants.{Due, Inside, Dotted, Coloned, Doubled, Behind, Failed}
 use Rattle.selector_tree.specs.declared.reading.Reading.{Reading}
 use Rattle.selector_tree.specs.declared.reading.Pending.{Pending}
-use Rattle.selector_tree.specs.Names.{pseudo_text}
-use Rattle.selector_tree.specs.Grammar.{Body, with_part, tailed, states_of, body_of, compound_with, compound_of, is_old_element, stripped, white_before, sign_before, spaced, Runs, runs_of, Step, stands_before, with_step, steps_of, link_of, selector_with, lead_of, behind_lead, Mark, is_gap_sign, is_comma_sign, first_place, selector_of, Member, empty_before, with_mark, cut_at_commas, or_fault, first_and, members_reading, marks_reading}
+use Rattle.selector_types.specs.Names.{is_old_element, pseudo_text}
+use Rattle.selector_tree.specs.Grammar.{Body, with_part, tailed, states_of, body_of, compound_with, compound_of, stripped, white_before, sign_before, spaced, Runs, runs_of, Step, stands_before, with_step, steps_of, link_of, selector_with, lead_of, behind_lead, Mark, is_gap_sign, is_comma_sign, first_place, selector_of, Member, empty_before, with_mark, cut_at_commas, or_fault, first_and, members_reading, marks_reading}
 use Rattle.selector_tree.specs.Private.ReadingSteps.{joined, chained, of_type, with_simple, with_element, with_state, reading, step, concluded, fresh, pending_step, pending_run, pending_selector, pending_reading, list_from, behind_list}
 
 -- What a reading and the clean signs behind it say.

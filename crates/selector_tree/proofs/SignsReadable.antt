@@ -1,29 +1,26 @@
 -- What is read from signs has a spelling that is read as it, where nothing in it cannot be written.
-use Rattle.std.proofs.Common.{◌≡◌, ℕ, List, [], ◌∷◌, ◌++◌, map, Bool, true, false, not, ◌&&◌, ◌||◌, refl, sym, ap, ap₂, ◌∙◌, subst}
-use Rattle.std.specs.Prelude.{codes, Option, Some, None, is_some, unwrap_or, if◌then◌else◌, Result, Ok, Err}
+use Rattle.std.proofs.Common.{◌≡◌, ℕ, List, [], ◌∷◌, map, Bool, true, false, ◌&&◌, ◌||◌, refl, sym, ap, ap₂, ◌∙◌, subst}
+use Rattle.std.specs.Prelude.{Option, Some, None, is_some, unwrap_or, if◌then◌else◌, Result}
 use Rattle.std.specs.List.{AllByRecursion, list_all}
-use Rattle.std.specs.Option.{option_map}
 use Rattle.std.proofs.lemmas.Bool.{and_parts, false≢true}
-use Rattle.selector_tree.specs.declared.selector.Combinator.{Combinator}
-use Rattle.selector_tree.specs.declared.selector.Combinator.TheVariants as combinators
-use Rattle.selector_tree.specs.declared.selector.TypeName.{TypeName}
-use Rattle.selector_tree.specs.declared.selector.TypeName.TheVariants as types
-use Rattle.selector_tree.specs.declared.selector.Simple.{Simple}
-use Rattle.selector_tree.specs.declared.selector.Simple as simple
-use Rattle.selector_tree.specs.declared.selector.Part as part
-use Rattle.selector_tree.specs.declared.selector.Link as link
-use Rattle.selector_tree.specs.declared.selector.Tail.{Tail}
-use Rattle.selector_tree.specs.declared.selector.Compound.{Compound}
-use Rattle.selector_tree.specs.declared.selector.Selector.{Selector}
+use Rattle.selector_types.specs.declared.selector.Combinator.{Combinator}
+use Rattle.selector_types.specs.declared.selector.TypeName.{TypeName}
+use Rattle.selector_types.specs.declared.selector.TypeName.TheVariants as types
+use Rattle.selector_types.specs.declared.selector.Simple.{Simple}
+use Rattle.selector_types.specs.declared.selector.Simple as simple
+use Rattle.selector_types.specs.declared.selector.Part as part
+use Rattle.selector_types.specs.declared.selector.Tail.{Tail}
+use Rattle.selector_types.specs.declared.selector.Compound.{Compound}
+use Rattle.selector_types.specs.declared.selector.Selector.{Selector}
 use Rattle.selector_tree.specs.declared.sign.Sign.{Sign}
-use Rattle.selector_tree.specs.declared.sign.Sign.TheVariants.{Comment, White, Comma, Joint, Name, Star, Dot, Colon, Whole, Call, Other}
-use Rattle.selector_tree.specs.BareFold.{BareSteps, placed, bare_compound}
-use Rattle.selector_tree.specs.Grammar.{Body, with_part, tailed, states_of, body_of, compound_with, is_old_element, stripped, white_before, sign_before, spaced, Runs, run_before, runs_of, Step, stands_before, with_step, steps_of, link_of, selector_with, lead_of, behind_lead, selector_of_runs, selector_at, Mark, is_comma_sign, first_place, selector_of, Member, empty_before, with_mark, cut_at_commas, fault_place, member_reading, first_and, members_reading, marks_reading}
+use Rattle.selector_tree.specs.declared.sign.Sign.TheVariants.{Comment, White, Joint, Name, Star, Dot, Colon, Whole, Call}
+use Rattle.selector_types.specs.BareFold.{BareSteps, placed, bare_compound}
+use Rattle.selector_types.specs.Names.{is_old_element, pseudo_text}
+use Rattle.selector_tree.specs.Grammar.{Body, with_part, tailed, states_of, body_of, compound_with, stripped, white_before, sign_before, spaced, Runs, run_before, runs_of, Step, stands_before, with_step, steps_of, link_of, selector_with, lead_of, behind_lead, selector_of_runs, selector_at, Mark, is_comma_sign, first_place, selector_of, Member, empty_before, with_mark, cut_at_commas, fault_place, member_reading, first_and, members_reading, marks_reading}
 use Rattle.selector_tree.specs.Grammar as grammar
-use Rattle.selector_tree.specs.Names.{pseudo_text}
-use Rattle.selector_tree.specs.ReadableSelectors.{is_pseudo_text, is_readable_pseudo, is_readable_type, has_type, has_some, is_readable_tail, is_readable_lead, are_readable, readable, is_readable_simple, is_readable_compound, is_readable_selector, is_readable_list, writable, is_writable_simple, is_writable_compound, is_writable_selector, is_writable_list}
-use Rattle.selector_tree.specs.SameErased.{linked}
-use Rattle.selector_tree.specs.SelectorFold.{made_part, made_link, simple_of, folded-Class, folded-Pseudo, folded-Foreign, folded-Compound, folded-Selector}
+use Rattle.selector_types.specs.ReadableSelectors.{is_pseudo_text, is_readable_type, has_type, has_some, is_readable_tail, is_readable_lead, are_readable, readable, is_readable_simple, is_readable_compound, is_readable_selector, is_readable_list, writable, is_writable_simple, is_writable_compound, is_writable_selector, is_writable_list}
+use Rattle.selector_types.specs.SameErased.{linked}
+use Rattle.selector_types.specs.SelectorFold.{made_part, made_link, simple_of, folded-Class, folded-Pseudo, folded-Foreign, folded-Compound, folded-Selector}
 use Rattle.selector_tree.specs.Signs.{read}
 use Rattle.selector_tree.proofs.NamesAgain.{pseudo-kept}
 use Rattle.selector_tree.proofs.SelectorAgain.{simples_in, compound-asks}

@@ -1,10 +1,10 @@
 -- AN+B without white space is read again.
-use Rattle.std.proofs.Common.{◌≡◌, ℕ, List, [], ◌∷◌, ◌++◌, map, length, take, drop, Bool, true, false, not, ◌&&◌, ◌||◌, refl, sym, ap, ap₂, ◌∙◌, subst, inl, inr, arith, codes, nat_eq, eqb-true, take-append-drop}
+use Rattle.std.proofs.Common.{◌≡◌, ℕ, List, [], ◌∷◌, ◌++◌, length, take, drop, Bool, true, false, not, ◌&&◌, ◌||◌, refl, sym, ap, ap₂, ◌∙◌, subst, inl, inr, arith, codes, nat_eq, eqb-true, take-append-drop}
 use Rattle.std.specs.Prelude.{Option, Some, None, if◌then◌else◌}
 use Rattle.std.specs.Char.{is_ascii_digit, to_ascii_lowercase}
-use Rattle.std.specs.List.{list_all, list_any}
+use Rattle.std.specs.List.{list_all}
 use Rattle.std.specs.Option.{option_map, option_map_or, option_and_then}
-use Rattle.std.proofs.lemmas.Bool.{cases_Bool, and_parts, or_cases, false≢true}
+use Rattle.std.proofs.lemmas.Bool.{and_parts, or_cases, false≢true}
 use Rattle.std.proofs.lemmas.Bool.Decides.{nat_tests}
 use Rattle.std.proofs.lemmas.List.{append-nil}
 use Rattle.std.proofs.lemmas.List.Folds.{list_all-append, list_any-append}
@@ -13,18 +13,18 @@ use Rattle.css_tokens.specs.Contents.{content, never}
 use Rattle.css_tokens.specs.declared.kind.Kind.{Kind}
 use Rattle.css_tokens.specs.declared.kind.Kind.TheVariants as kinds
 use Rattle.css_tokens.specs.declared.component.Component.{Component}
-use Rattle.css_tokens.specs.Names.{name_of_word}
 use Rattle.css_tokens.specs.Piece.{Piece}
 use Rattle.css_tokens.specs.Trees.{is_text}
 use Rattle.css_tokens.specs.Numbers.{begins_digit}
-use Rattle.selector_tree.specs.Arguments.{after_digits, after_spaces, an_plus_b, is_an_plus_b, is_blank, is_integer, is_offset, is_step, is_word, kind_text, text_before, texts_of, unspaced}
+use Rattle.selector_types.specs.AnPlusB.{after_digits, after_spaces, is_an_plus_b, is_blank, is_integer, is_offset, is_step, is_word}
+use Rattle.selector_tokens.specs.Arguments.{an_plus_b, kind_text, text_before, texts_of, unspaced}
 use Rattle.selector_tree.specs.Grammar.{Mark}
-use Rattle.selector_tree.specs.Names.{has_space, lowered}
-use Rattle.selector_tree.specs.ReadableSelectors.{is_step_text}
+use Rattle.selector_types.specs.Names.{has_space, lowered}
+use Rattle.selector_types.specs.ReadableSelectors.{is_step_text}
 use Rattle.selector_tree.specs.Signs.{is_comment_kind, token_before, tokens_of}
-use Rattle.selector_tree.specs.Spelling.{single, delim, before_plus, from_plus, unsigned, word_kind, front_spelling, back_spelling, step_spelling}
+use Rattle.selector_types.specs.Spelling.{single, delim, before_plus, from_plus, unsigned, word_kind, back_spelling, step_spelling}
 use Rattle.selector_tree.proofs.PartAgain.{marks_of, mark-single}
-use Rattle.selector_tree.proofs.SpellingTexts.{around-plus}
+use Rattle.selector_types.proofs.SpellingTexts.{around-plus}
 
 -- Bytes other than `\` and upper case letters.
 

@@ -1,7 +1,7 @@
 -- What is read from tokens can be written: attribute selectors, names and pseudo-classes.
-use Rattle.std.proofs.Common.{◌≡◌, ℕ, List, [], ◌∷◌, ◌++◌, Bool, true, false, not, ◌&&◌, ◌||◌, refl, sym, ap, ap₂, ◌∙◌, subst, codes, append_assoc}
+use Rattle.std.proofs.Common.{◌≡◌, ℕ, List, [], ◌∷◌, ◌++◌, Bool, true, false, not, ◌&&◌, refl, sym, ap, ap₂, ◌∙◌, subst, codes, append_assoc}
 use Rattle.std.specs.Prelude.{Option, Some, None, if◌then◌else◌}
-use Rattle.std.specs.List.{AllByRecursion, list_all}
+use Rattle.std.specs.List.{AllByRecursion}
 use Rattle.std.specs.Option.{option_map, option_map_or, option_and_then}
 use Rattle.std.proofs.lemmas.Bool.{and_parts, false≢true}
 use lib.Pointwise.{bytes_decides}
@@ -14,20 +14,19 @@ use Rattle.css_tokens.specs.Names.{is_content, is_name, name_of_word}
 use Rattle.css_tokens.specs.Piece.{Piece, Word, word_of}
 use Rattle.css_tokens.specs.Tokens.{First, is_url, spells}
 use Rattle.css_tokens.specs.Trees.{is_text}
-use Rattle.selector_tree.specs.declared.selector.Attribute.{Attribute}
-use Rattle.selector_tree.specs.declared.selector.Test.{Test}
-use Rattle.selector_tree.specs.declared.selector.Test.TheVariants as tests
+use Rattle.selector_types.specs.declared.selector.Attribute.{Attribute}
+use Rattle.selector_types.specs.declared.selector.Test.{Test}
+use Rattle.selector_types.specs.declared.selector.Test.TheVariants as tests
 use Rattle.selector_tree.specs.declared.sign.Callee.{Callee}
 use Rattle.selector_tree.specs.declared.sign.Callee.TheVariants as callees
-use Rattle.selector_tree.specs.Arguments.{after_white, attribute_of, begun, flagged, is_delim, is_delim_kind, is_flag, is_ident_kind, is_white, is_white_kind, lone, lone_name, name_in, named, operated, test_before_equals, test_of, value_in_kind, valued}
-use Rattle.selector_tree.specs.Grammar.{is_old_element}
-use Rattle.selector_tree.specs.Names.{is_id, lowered, pseudo_text}
-use Rattle.selector_tree.specs.ReadableSelectors.{is_argument_text, is_clean, is_name_text, is_named, is_pseudo_of, is_pseudo_text, is_readable_pseudo, is_readable_value, is_spelled, is_step_text}
+use Rattle.selector_tokens.specs.Arguments.{after_white, attribute_of, begun, flagged, is_delim, is_delim_kind, is_flag, is_ident_kind, is_white, is_white_kind, lone, lone_name, name_in, named, operated, test_before_equals, test_of, value_in_kind, valued}
+use Rattle.selector_types.specs.Names.{is_old_element, lowered, pseudo_text}
+use Rattle.selector_types.specs.ReadableSelectors.{is_argument_text, is_clean, is_name_text, is_named, is_pseudo_of, is_readable_pseudo, is_readable_value, is_spelled, is_step_text}
 use Rattle.selector_tree.specs.Signs.{callee_of}
-use Rattle.selector_tree.specs.Spelling.{before_close, behind, text_functions}
-use Rattle.selector_tree.proofs.LowerNames.{lower-name}
-use Rattle.selector_tree.proofs.NamesAgain.{name-kept, pseudo-kept}
-use Rattle.selector_tree.proofs.SpellingTexts.{maybe, behind-whole, argument-in}
+use Rattle.selector_types.specs.Spelling.{before_close, behind, text_functions}
+use Rattle.selector_types.proofs.LowerNames.{lower-name}
+use Rattle.selector_tree.proofs.NamesAgain.{pseudo-kept}
+use Rattle.selector_types.proofs.SpellingTexts.{maybe, behind-whole, argument-in}
 
 -- what holds of it, where there is something
 abbrev pub OfSome : {A : Type 0} → (A → Type 0) → Option A → Type 0

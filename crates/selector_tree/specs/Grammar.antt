@@ -1,33 +1,24 @@
 -- Selectors and lists of them, read from component values (Selectors 4, section 18, Grammar; CSS Nesting 1, section 3).
-use Rattle.std.specs.Prelude.{ℕ, List, [], ◌∷◌, map, Bool, true, false, not, codes, Option, Some, None, unwrap_or, if◌then◌else◌, Result, Ok, Err}
-use Rattle.std.specs.List.{find, list_any}
+use Rattle.std.specs.Prelude.{ℕ, List, [], ◌∷◌, map, Bool, true, false, not, Option, Some, None, unwrap_or, if◌then◌else◌, Result, Ok, Err}
+use Rattle.std.specs.List.{find}
 use Rattle.std.specs.Option.{option_map}
 use Rattle.css_tokens.specs.Piece.{Piece}
-use Rattle.css_tokens.specs.Trees.{is_text}
-use Rattle.selector_tree.specs.declared.selector.Combinator.{Combinator}
-use Rattle.selector_tree.specs.declared.selector.Combinator.TheVariants as combinators
-use Rattle.selector_tree.specs.declared.selector.TypeName.{TypeName}
-use Rattle.selector_tree.specs.declared.selector.TypeName.TheVariants as types
-use Rattle.selector_tree.specs.declared.selector.Simple.{Simple}
-use Rattle.selector_tree.specs.declared.selector.Simple as simple
-use Rattle.selector_tree.specs.declared.selector.Part as part
-use Rattle.selector_tree.specs.declared.selector.Link as link
-use Rattle.selector_tree.specs.declared.selector.Tail.{Tail}
-use Rattle.selector_tree.specs.declared.selector.Compound as compound
-use Rattle.selector_tree.specs.declared.selector.Selector as selector
+use Rattle.selector_types.specs.declared.selector.Combinator.{Combinator}
+use Rattle.selector_types.specs.declared.selector.Combinator.TheVariants as combinators
+use Rattle.selector_types.specs.declared.selector.TypeName.{TypeName}
+use Rattle.selector_types.specs.declared.selector.TypeName.TheVariants as types
+use Rattle.selector_types.specs.declared.selector.Simple.{Simple}
+use Rattle.selector_types.specs.declared.selector.Simple as simple
+use Rattle.selector_types.specs.declared.selector.Part as part
+use Rattle.selector_types.specs.declared.selector.Link as link
+use Rattle.selector_types.specs.declared.selector.Tail.{Tail}
+use Rattle.selector_types.specs.declared.selector.Compound as compound
+use Rattle.selector_types.specs.declared.selector.Selector as selector
 use Rattle.selector_tree.specs.declared.sign.Sign.{Sign}
 use Rattle.selector_tree.specs.declared.sign.Sign.TheVariants.{Comment, White, Comma, Joint, Name, Star, Dot, Colon, Whole, Call}
-use Rattle.selector_tree.specs.Names.{pseudo_text}
+use Rattle.selector_types.specs.Names.{is_old_element, pseudo_text}
 
 -- Compounds. Their signs hold no comment, white space, comma or combinator.
-
--- the pseudo-elements that may have one colon
-abbrev pub old_elements : List (List ℕ)
-old_elements = codes "before" ∷ codes "after" ∷ codes "first-line" ∷ codes "first-letter" ∷ []
-
--- is it one of these?
-abbrev pub is_old_element : List ℕ → Bool
-is_old_element name = list_any (is_text name) old_elements
 
 -- what stands behind the type selector of a compound
 pub record Body : Type 0 where

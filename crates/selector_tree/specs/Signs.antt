@@ -15,20 +15,20 @@ use Rattle.css_tokens.specs.Names.{name_of_word}
 use Rattle.css_tokens.specs.NameText.{name_text}
 use Rattle.css_tokens.specs.Piece.{Piece}
 use Rattle.css_tokens.specs.Trees.{is_text}
-use Rattle.selector_tree.specs.declared.selector.Attribute.{Attribute}
-use Rattle.selector_tree.specs.declared.selector.Combinator.TheVariants as combinators
-use Rattle.selector_tree.specs.declared.selector.Compound.{Compound}
-use Rattle.selector_tree.specs.declared.selector.Link as link
-use Rattle.selector_tree.specs.declared.selector.Selector.{Selector}
-use Rattle.selector_tree.specs.declared.selector.Simple.{Simple}
-use Rattle.selector_tree.specs.declared.selector.Simple as simple
+use Rattle.selector_types.specs.declared.selector.Attribute.{Attribute}
+use Rattle.selector_types.specs.declared.selector.Combinator.TheVariants as combinators
+use Rattle.selector_types.specs.declared.selector.Compound.{Compound}
+use Rattle.selector_types.specs.declared.selector.Link as link
+use Rattle.selector_types.specs.declared.selector.Selector.{Selector}
+use Rattle.selector_types.specs.declared.selector.Simple.{Simple}
+use Rattle.selector_types.specs.declared.selector.Simple as simple
 use Rattle.selector_tree.specs.declared.sign.Callee.{Callee}
 use Rattle.selector_tree.specs.declared.sign.Callee.TheVariants as callees
 use Rattle.selector_tree.specs.declared.sign.Sign.{Sign}
 use Rattle.selector_tree.specs.declared.sign.Sign.TheVariants as signs
-use Rattle.selector_tree.specs.Arguments.{attribute_of, lone_name, an_plus_b}
+use Rattle.selector_tokens.specs.Arguments.{attribute_of, lone_name, an_plus_b}
 use Rattle.selector_tree.specs.Grammar.{Mark, marks_reading}
-use Rattle.selector_tree.specs.Names.{is_id, lowered}
+use Rattle.selector_types.specs.Names.{is_id, lowered}
 
 -- Tokens.
 

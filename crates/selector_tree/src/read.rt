@@ -3,22 +3,22 @@
 ghost use Rattle.css_tokens.specs.NameText.{name_text};
 ghost use Rattle.selector_tree.specs.Faults.{FaultIs};
 ghost use Rattle.selector_tree.specs.Grammar.{Mark};
-ghost use Rattle.selector_tree.specs.Private.ReadingSteps.{Reads};
-ghost use Rattle.selector_tree.specs.Arguments.{an_plus_b, attribute_of, lone_name};
+ghost use Rattle.selector_tree.specs.Private.ReadingSteps.{listing_step, Reads};
+ghost use Rattle.selector_tokens.specs.Arguments.{an_plus_b, attribute_of, lone_name};
 ghost use Rattle.selector_tree.specs.Signs.{argued, attribute_sign, call_of, callee_of, compound_in, delim_sign, call_by, forgiving_list, id_sign, is_gap, kind_sign, list_in, list_reading, mark_of, opened_sign, takes_list, tokens_of, with_argument};
-ghost use Rattle.selector_tree.specs.declared.selector.Simple as simple;
+ghost use Rattle.selector_types.specs.declared.selector.Simple as simple;
 ghost use Rattle.std.specs.List.{list_all};
 ghost use Rattle.std.specs.Option.{option_and_then, option_map};
-ghost use Rattle.std.specs.Prelude.{◌≡◌, ℕ, List, map, IfOk, IfErr, Ok, true, false};
+ghost use Rattle.std.specs.Prelude.{◌≡◌, ℕ, List, map, IfOk, IfErr, OnOk, Ok, true, false};
 
-use crate::argument::{an_plus_b, attribute_of, lone_name};
 use crate::fault::SelectorFault;
-use crate::name::{is_id, lowered, name_text};
 use crate::reading::Listing;
-use crate::selector::{Combinator, Compound, Selector, Simple};
 use crate::sign::{Callee, Sign};
-use css_tokens::{Block, Component, Kind, List, OutOfMemory, Text, Token, name_of};
+use css_tokens::{Block, Boxed, Component, Kind, List, OutOfMemory, Text, Token, name_of};
+use selector_tokens::{an_plus_b, attribute_of, is_id, lone_name, lowered, name_text};
+use selector_types::{Combinator, Compound, Selector, Simple};
 use std::alloc::Global;
+use std::mem;
 
 /// The sign of a Hash: an id where what stands behind `#` spells an identifier.
 fn id_sign<'a>(text: &str, name: Text<'a>, at: u32) -> Sign<'a>
@@ -68,7 +68,7 @@ fn place_of(component: &Component) -> u32
 {
     match component {
         Component::Single(token) => token.at,
-        Component::Block(block) => block.opening.at,
+        Component::Block(block) => block.get().opening.at,
     }
 }
 
@@ -166,21 +166,27 @@ fn where_of<'a>(list: Option<List<Selector<'a>>>) -> Option<Simple<'a>>
     }
 }
 
-fn local_of<'a>(compound: Option<Compound<'a>>) -> Option<Simple<'a>>
-    ensures { result ≡ option_map (λ k. simple.Local k) compound.entry }
+fn local_of<'a>(
+    alloc: Global,
+    compound: Option<Compound<'a>>,
+) -> Result<Option<Simple<'a>>, OutOfMemory>
+    ensures { IfOk result (λ x. x ≡ option_map (λ k. simple.Local k) compound.entry) }
 {
     match compound {
-        Some(compound) => Some(Simple::Local(compound)),
-        None => None,
+        Some(compound) => Ok(Some(Simple::Local(Boxed::new(alloc, compound)?))),
+        None => Ok(None),
     }
 }
 
-fn global_of<'a>(compound: Option<Compound<'a>>) -> Option<Simple<'a>>
-    ensures { result ≡ option_map (λ k. simple.Global k) compound.entry }
+fn global_of<'a>(
+    alloc: Global,
+    compound: Option<Compound<'a>>,
+) -> Result<Option<Simple<'a>>, OutOfMemory>
+    ensures { IfOk result (λ x. x ≡ option_map (λ k. simple.Global k) compound.entry) }
 {
     match compound {
-        Some(compound) => Some(Simple::Global(compound)),
-        None => None,
+        Some(compound) => Ok(Some(Simple::Global(Boxed::new(alloc, compound)?))),
+        None => Ok(None),
     }
 }
 
@@ -245,7 +251,10 @@ fn attribute_sign<'a>(
         return Ok(Sign::Other);
     };
     match attribute_of(alloc, tokens.as_slice())? {
-        Some(attribute) => Ok(Sign::Whole(Simple::Attribute(attribute), at)),
+        Some(attribute) => {
+            let attribute = Boxed::new(alloc, attribute)?;
+            Ok(Sign::Whole(Simple::Attribute(attribute), at))
+        }
         None => Ok(Sign::Other),
     }
 }
@@ -287,6 +296,7 @@ fn forgiving<'a>(
     ensures { IfOk result (λ list. (ms : List Mark) → Reads false read.entry ms → nothing ≡ list_all (λ m. is_gap m.token) ms → list ≡ forgiving_list ms) }
 {
     if nothing {
+        mem::drop(read);
         Ok(Some(List::new(alloc)))
     } else {
         finished(alloc, read)
@@ -320,9 +330,12 @@ fn list_call<'a>(
         Callee::Not => Ok(not_of(finished(alloc, read)?)),
         Callee::Is => Ok(is_of(forgiving(alloc, nothing, read)?)),
         Callee::Where => Ok(where_of(forgiving(alloc, nothing, read)?)),
-        Callee::Local => Ok(local_of(alone(alloc, read)?)),
-        Callee::Global => Ok(global_of(alone(alloc, read)?)),
-        Callee::Step | Callee::Lang | Callee::Other => Ok(None),
+        Callee::Local => local_of(alloc, alone(alloc, read)?),
+        Callee::Global => global_of(alloc, alone(alloc, read)?),
+        Callee::Step | Callee::Lang | Callee::Other => {
+            mem::drop(read);
+            Ok(None)
+        }
     }
 }
 
@@ -348,7 +361,7 @@ fn sign_of<'a>(alloc: Global, component: &Component<'a>) -> Result<Sign<'a>, Out
 {
     match component {
         Component::Single(token) => token_sign(alloc, token),
-        Component::Block(block) => block_sign(alloc, block),
+        Component::Block(block) => block_sign(alloc, block.get()),
     }
 }
 
@@ -386,6 +399,22 @@ fn call_of<'a>(
     }
 }
 
+/// One more component of a list.
+#[cycle(reads)]
+fn step_over<'a>(
+    alloc: Global,
+    nested: bool,
+    component: &Component<'a>,
+    listing: &mut Listing<'a>,
+) -> Result<(), SelectorFault>
+    ensures found { OnOk result (listing_step nested listing.old (mark_of component.now).sign (mark_of component.now).at ≡ Ok listing.new) }
+    ensures fault { IfErr result (λ e. FaultIs e (listing_step nested listing.old (mark_of component.now).sign (mark_of component.now).at)) }
+{
+    let at = place_of(component);
+    let sign = sign_of(alloc, component)?;
+    listing.step(alloc, nested, sign, at)
+}
+
 /// The list that components spell, but for the end of its last member.
 #[cycle(reads)]
 fn listing_of<'a>(
@@ -397,9 +426,10 @@ fn listing_of<'a>(
 {
     let mut listing = Listing::fresh(alloc, nested);
     for component in components {
-        let at = place_of(component);
-        let sign = sign_of(alloc, component)?;
-        listing.step(alloc, nested, sign, at)?;
+        if let Err(fault) = step_over(alloc, nested, component, &mut listing) {
+            mem::drop(listing);
+            return Err(fault);
+        }
     }
     Ok(listing)
 }

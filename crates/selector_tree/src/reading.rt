@@ -1,30 +1,33 @@
-//! A selector that is read from left to right, sign by sign.
+//! A selector that is read from left to right, sign by sign. What is let go of is given to `mem::drop`, whose proof serves
+//! every place: a value that goes out of scope would have to be shown dropped there anew.
 
 ghost use Rattle.selector_tree.specs.Faults.{FaultIs};
-ghost use Rattle.selector_tree.specs.Grammar.{is_old_element};
-ghost use Rattle.selector_tree.specs.Private.ReadingSteps.{chained, fresh, joined, linked, listing_end, listing_step, of_type, on_argument, on_call, on_colon, on_dot, on_joint, on_name, on_part, on_pseudo, on_type, on_white, pending_reading, pending_step, reading, step, with_element, with_member, with_simple};
-ghost use Rattle.selector_tree.specs.declared.reading.Phase.TheVariants.{Inside};
+ghost use Rattle.selector_types.specs.Names.{is_old_element};
+ghost use Rattle.selector_tree.specs.Private.ReadingSteps.{chained, fresh, joined, linked, listing_end, listing_step, of_type, on_argument, on_call, on_colon, on_dot, on_joint, on_name, on_part, on_pseudo, on_type, on_white, pending_reading, pending_step, reading, step, untailed, with_element, with_member, with_simple, with_state, with_tail};
+ghost use Rattle.selector_tree.specs.declared.reading.Phase.TheVariants.{Failed, Inside};
+ghost use Rattle.selector_types.specs.declared.selector.Combinator.TheVariants.{Descendant};
+ghost use Rattle.selector_types.specs.declared.selector.TypeName.TheVariants as types;
 ghost use Rattle.selector_tree.specs.Signs.{lone_compound, read};
 ghost use Rattle.std.specs.Option.{option_and_then};
 ghost use Rattle.std.specs.Prelude.{◌≡◌, [], ◌∷◌, IfOk, IfErr, OnOk, Ok};
 
 use crate::fault::SelectorFault;
-use crate::name::pseudo_text;
-use crate::selector::{Combinator, Compound, Link, Part, Selector, Simple, Tail, TypeName};
 use crate::sign::Sign;
-use css_tokens::{List, OutOfMemory, Text};
+use css_tokens::{Boxed, List, OutOfMemory, Text};
+use selector_tokens::pseudo_text;
+use selector_types::{Combinator, Compound, Link, Part, Selector, Simple, Tail, TypeName};
 use std::alloc::Global;
 use std::mem;
 
 /// The compounds that are read, and the combinator behind the last.
-#[derive(Debug, Drop)]
+#[derive(Drop)]
 enum Front<'a> {
     Nothing,
     Joined(Compound<'a>, List<Link<'a>>, Combinator),
 }
 
 /// How far a selector is read.
-#[derive(Clone, Copy, Debug)]
+#[derive(Clone, Copy)]
 enum Phase {
     /// A compound has to follow, behind a leading combinator where the flag allows one.
     Due(bool),
@@ -43,7 +46,7 @@ enum Phase {
 }
 
 /// A selector that is being read, and its last compound.
-#[derive(Debug, Drop)]
+#[derive(Drop)]
 struct Reading<'a> {
     phase: Phase,
     lead: Option<Combinator>,
@@ -52,7 +55,7 @@ struct Reading<'a> {
 }
 
 /// A member of a list that is being read, and the place of its first token.
-#[derive(Debug, Drop)]
+#[derive(Drop)]
 struct Pending<'a> {
     reading: Reading<'a>,
     place: Option<u32>,
@@ -85,18 +88,25 @@ impl<'a> Front<'a> {
     ) -> Result<(), OutOfMemory>
         ensures { OnOk result (self.new ≡ joined self.old compound.entry combinator) }
     {
-        match self {
+        match mem::replace(self, Front::Nothing) {
             Front::Nothing => {
-                *self = Front::Joined(compound, List::new(alloc), combinator);
+                let joined = Front::Joined(compound, List::new(alloc), combinator);
+                mem::drop(mem::replace(self, joined));
+                Ok(())
             }
-            Front::Joined(_, _, last) => {
-                let before = mem::replace(last, combinator);
-                if let Front::Joined(_, rest, _) = self {
-                    rest.push(Link::Linked(before, compound))?;
+            Front::Joined(first, mut rest, before) => {
+                match rest.push(Link::Linked(before, compound)) {
+                    Ok(()) => {
+                        mem::drop(mem::replace(self, Front::Joined(first, rest, combinator)));
+                        Ok(())
+                    }
+                    Err(fault) => {
+                        mem::drop((first, rest));
+                        Err(fault)
+                    }
                 }
             }
         }
-        Ok(())
     }
 }
 
@@ -106,7 +116,7 @@ impl<'a> Reading<'a> {
         ensures { self.new ≡ reading phase self.old.lead self.old.front (of_type kind.entry) }
     {
         self.phase = phase;
-        self.compound = of_type(alloc, kind);
+        mem::drop(mem::replace(&mut self.compound, of_type(alloc, kind)));
     }
 
     /// A combinator behind the last compound. Behind a refusal for want of memory the reading is of no use.
@@ -128,15 +138,61 @@ impl<'a> Reading<'a> {
         Ok(())
     }
 
-    /// A pseudo-element of the last compound.
-    fn add_element(&mut self, alloc: Global, element: Text<'a>)
-        ensures { self.new ≡ reading Inside self.old.lead self.old.front (with_element self.old.compound element.entry) }
+    /// One more part of the last compound, behind which no pseudo-element may stand.
+    fn add_part(&mut self, simple: Simple<'a>, at: u32) -> Result<(), OutOfMemory>
+        ensures { OnOk result (self.new ≡ untailed self.old.compound.tail (reading Inside self.old.lead self.old.front (with_simple self.old.compound simple.entry at)) (reading Failed self.old.lead self.old.front self.old.compound)) }
     {
-        self.compound.tail = Some(Tail {
-            element,
-            states: List::new(alloc),
-        });
+        if self.compound.tail.is_none() {
+            self.add(simple, at)
+        } else {
+            mem::drop(simple);
+            self.phase = Phase::Failed;
+            Ok(())
+        }
+    }
+
+    /// A part of a further compound, behind white space.
+    fn add_behind(&mut self, alloc: Global, simple: Simple<'a>, at: u32) -> Result<(), OutOfMemory>
+        ensures { OnOk result (self.new ≡ reading Inside self.old.lead (joined self.old.front self.old.compound Descendant) (with_simple (of_type types.None) simple.entry at)) }
+    {
+        match self.join(alloc, Combinator::Descendant) {
+            Ok(()) => self.add(simple, at),
+            Err(fault) => {
+                mem::drop(simple);
+                Err(fault)
+            }
+        }
+    }
+
+    /// The pseudo-element of the last compound, with its states.
+    fn end(&mut self, alloc: Global, tail: Tail<'a>) -> Result<(), OutOfMemory>
+        ensures { OnOk result (self.new ≡ reading Inside self.old.lead self.old.front (with_tail self.old.compound tail.entry)) }
+    {
+        self.compound.tail = Some(Boxed::new(alloc, tail)?);
         self.phase = Phase::Inside;
+        Ok(())
+    }
+
+    /// A pseudo-element of the last compound.
+    fn add_element(&mut self, alloc: Global, element: Text<'a>) -> Result<(), OutOfMemory>
+        ensures { OnOk result (self.new ≡ reading Inside self.old.lead self.old.front (with_element self.old.compound element.entry)) }
+    {
+        let states = List::new(alloc);
+        self.end(alloc, Tail { element, states })
+    }
+
+    /// One more state of the pseudo-element of the last compound.
+    fn add_state(
+        &mut self,
+        alloc: Global,
+        tail: Boxed<Tail<'a>>,
+        state: Text<'a>,
+    ) -> Result<(), OutOfMemory>
+        ensures { OnOk result (self.new ≡ reading Inside self.old.lead self.old.front (with_state self.old.compound tail.entry state.entry)) }
+    {
+        let mut tail = tail.into_inner();
+        tail.states.push(state)?;
+        self.end(alloc, tail)
     }
 
     fn on_type(&mut self, alloc: Global, kind: TypeName<'a>) -> Result<(), OutOfMemory>
@@ -157,20 +213,10 @@ impl<'a> Reading<'a> {
     fn on_pseudo(&mut self, alloc: Global, name: Text<'a>, at: u32) -> Result<(), OutOfMemory>
         ensures { OnOk result (self.new ≡ on_pseudo name.entry at self.old.compound.tail self.old.lead self.old.front self.old.compound) }
     {
-        match &mut self.compound.tail {
-            Some(tail) => {
-                tail.states.push(name)?;
-                self.phase = Phase::Inside;
-                Ok(())
-            }
-            None => {
-                if is_old_element(name.as_str()) {
-                    self.add_element(alloc, name);
-                    Ok(())
-                } else {
-                    self.add(Simple::Pseudo(name), at)
-                }
-            }
+        match mem::replace(&mut self.compound.tail, None) {
+            Some(tail) => self.add_state(alloc, tail, name),
+            None if is_old_element(name.as_str()) => self.add_element(alloc, name),
+            None => self.add(Simple::Pseudo(name), at),
         }
     }
 
@@ -187,8 +233,7 @@ impl<'a> Reading<'a> {
             }
             Phase::Doubled(_) if self.compound.tail.is_none() => {
                 let name = pseudo_text(alloc, name)?;
-                self.add_element(alloc, name);
-                Ok(())
+                self.add_element(alloc, name)
             }
             _ => self.on_type(alloc, TypeName::Name(name)),
         }
@@ -233,12 +278,10 @@ impl<'a> Reading<'a> {
                 self.begin(alloc, Phase::Inside, TypeName::None);
                 self.add(simple, at)
             }
-            Phase::Inside if self.compound.tail.is_none() => self.add(simple, at),
-            Phase::Behind if self.compound.tail.is_none() => {
-                self.join(alloc, Combinator::Descendant)?;
-                self.add(simple, at)
-            }
+            Phase::Inside => self.add_part(simple, at),
+            Phase::Behind if self.compound.tail.is_none() => self.add_behind(alloc, simple, at),
             _ => {
+                mem::drop(simple);
                 self.phase = Phase::Failed;
                 Ok(())
             }
@@ -249,8 +292,8 @@ impl<'a> Reading<'a> {
         ensures { OnOk result (self.new ≡ on_argument simple.entry at self.old.lead self.old.front self.old.compound) }
     {
         match simple {
-            Some(simple) if self.compound.tail.is_none() => self.add(simple, at),
-            _ => {
+            Some(simple) => self.add_part(simple, at),
+            None => {
                 self.phase = Phase::Failed;
                 Ok(())
             }
@@ -262,8 +305,12 @@ impl<'a> Reading<'a> {
     {
         match self.phase {
             Phase::Coloned(at) => self.on_argument(simple, at),
-            Phase::Doubled(at) if self.compound.tail.is_none() => self.add(Simple::Foreign, at),
+            Phase::Doubled(at) => {
+                mem::drop(simple);
+                self.add_part(Simple::Foreign, at)
+            }
             _ => {
+                mem::drop(simple);
                 self.phase = Phase::Failed;
                 Ok(())
             }
@@ -337,13 +384,18 @@ fn chained<'a>(alloc: Global, at: u32, reading: Reading<'a>) -> Result<Selector<
             at,
         }),
         Front::Joined(first, mut rest, before) => {
-            rest.push(Link::Linked(before, compound))?;
-            Ok(Selector {
-                lead,
-                first,
-                rest,
-                at,
-            })
+            match rest.push(Link::Linked(before, compound)) {
+                Ok(()) => Ok(Selector {
+                    lead,
+                    first,
+                    rest,
+                    at,
+                }),
+                Err(fault) => {
+                    mem::drop((first, rest));
+                    Err(fault)
+                }
+            }
         }
     }
 }
@@ -389,12 +441,16 @@ fn conclude<'a>(
             let at = pending.place.unwrap_or(0);
             Ok(chained(alloc, at, pending.reading)?)
         }
-        _ => Err(SelectorFault::Syntax(pending.place.unwrap_or(stop))),
+        _ => {
+            let at = pending.place.unwrap_or(stop);
+            mem::drop(pending);
+            Err(SelectorFault::Syntax(at))
+        }
     }
 }
 
 /// A list that is being read: its whole members, and the one that has begun.
-#[derive(Debug, Drop)]
+#[derive(Drop)]
 pub struct Listing<'a> {
     list: List<Selector<'a>>,
     pending: Pending<'a>,
@@ -434,6 +490,7 @@ impl<'a> Listing<'a> {
         ensures fault { IfErr result (λ e. FaultIs e (listing_step nested self.old sign.entry at)) }
     {
         if sign.is_comma() {
+            mem::drop(sign);
             self.end_member(alloc, nested, at)
         } else {
             self.pending.step(alloc, sign, at)?;
@@ -456,6 +513,7 @@ impl<'a> Listing<'a> {
         ensures { IfOk result (λ k. k ≡ option_and_then lone_compound (read (listing_end self.entry 0))) }
     {
         if !self.list.is_empty() {
+            mem::drop(self);
             return Ok(None);
         }
         match conclude(alloc, self.pending, 0) {
@@ -472,6 +530,7 @@ fn lone_compound<'a>(selector: Selector<'a>) -> Option<Compound<'a>>
     if selector.first.tail.is_none() && selector.rest.is_empty() {
         Some(selector.first)
     } else {
+        mem::drop(selector);
         None
     }
 }

@@ -3,11 +3,11 @@
 ghost use Rattle.selector_tree.specs.Grammar.{is_comma_sign};
 ghost use Rattle.std.specs.Prelude.{◌≡◌};
 
-use crate::selector::{Combinator, Simple};
 use css_tokens::Text;
+use selector_types::{Combinator, Simple};
 
 /// What a component value is to the grammar of selectors.
-#[derive(Debug, Drop)]
+#[derive(Drop)]
 pub enum Sign<'a> {
     /// A comment, which counts as nothing.
     Comment,
@@ -41,7 +41,7 @@ impl<'a> Sign<'a> {
 }
 
 /// What a Function begins behind a colon.
-#[derive(Clone, Copy, Debug)]
+#[derive(Clone, Copy)]
 pub enum Callee {
     Not,
     Is,

@@ -1,17 +1,17 @@
 -- A selector that is read from left to right, and the list in which it stands (Selectors 4, section 18, Grammar).
 use Rattle.std.specs.Prelude.{ℕ, ◌≡◌, List, [], ◌∷◌, ◌++◌, map, Bool, true, false, Option, Some, None, unwrap_or, if◌then◌else◌, Result, Ok, Err}
 use Rattle.std.specs.Option.{option_or}
-use Rattle.selector_tree.specs.declared.selector.Combinator.{Combinator}
-use Rattle.selector_tree.specs.declared.selector.Combinator.TheVariants as combinators
-use Rattle.selector_tree.specs.declared.selector.TypeName.{TypeName}
-use Rattle.selector_tree.specs.declared.selector.TypeName.TheVariants as types
-use Rattle.selector_tree.specs.declared.selector.Simple.{Simple}
-use Rattle.selector_tree.specs.declared.selector.Simple as simple
-use Rattle.selector_tree.specs.declared.selector.Part as part
-use Rattle.selector_tree.specs.declared.selector.Link as link
-use Rattle.selector_tree.specs.declared.selector.Tail.{Tail}
-use Rattle.selector_tree.specs.declared.selector.Compound.{Compound}
-use Rattle.selector_tree.specs.declared.selector.Selector.{Selector}
+use Rattle.selector_types.specs.declared.selector.Combinator.{Combinator}
+use Rattle.selector_types.specs.declared.selector.Combinator.TheVariants as combinators
+use Rattle.selector_types.specs.declared.selector.TypeName.{TypeName}
+use Rattle.selector_types.specs.declared.selector.TypeName.TheVariants as types
+use Rattle.selector_types.specs.declared.selector.Simple.{Simple}
+use Rattle.selector_types.specs.declared.selector.Simple as simple
+use Rattle.selector_types.specs.declared.selector.Part as part
+use Rattle.selector_types.specs.declared.selector.Link as link
+use Rattle.selector_types.specs.declared.selector.Tail.{Tail}
+use Rattle.selector_types.specs.declared.selector.Compound.{Compound}
+use Rattle.selector_types.specs.declared.selector.Selector.{Selector}
 use Rattle.selector_tree.specs.declared.sign.Sign.{Sign}
 use Rattle.selector_tree.specs.declared.sign.Sign.TheVariants.{Comment, White, Comma, Joint, Name, Star, Dot, Colon, Whole, Call, Other}
 use Rattle.selector_tree.specs.declared.reading.Front.{Front}
@@ -23,8 +23,8 @@ use Rattle.selector_tree.specs.declared.reading.Pending.{Pending}
 use Rattle.selector_tree.specs.declared.reading.Listing.{Listing}
 use Rattle.selector_tree.specs.declared.fault.SelectorFault.{SelectorFault}
 use Rattle.selector_tree.specs.Faults.{FaultIs}
-use Rattle.selector_tree.specs.Names.{pseudo_text}
-use Rattle.selector_tree.specs.Grammar.{Mark, Step, is_old_element, is_gap_sign, is_comma_sign, cut_at_commas, marks_reading, link_of, or_fault, first_and, members_reading}
+use Rattle.selector_types.specs.Names.{is_old_element, pseudo_text}
+use Rattle.selector_tree.specs.Grammar.{Mark, Step, is_gap_sign, is_comma_sign, cut_at_commas, marks_reading, link_of, or_fault, first_and, members_reading}
 
 -- one more compound, and the combinator behind it
 abbrev pub joined : Front → Compound → Combinator → Front
@@ -44,13 +44,17 @@ of_type kind = record { kind = kind; parts = []; tail = None }
 abbrev pub with_simple : Compound → Simple → ℕ → Compound
 with_simple compound x at = record { kind = compound.kind; parts = compound.parts ++ part.Placed x at ∷ []; tail = compound.tail }
 
--- the compound with this pseudo-element
+-- the compound with this pseudo-element and its states
+abbrev pub with_tail : Compound → Tail → Compound
+with_tail compound tail = record { kind = compound.kind; parts = compound.parts; tail = Some tail }
+
+-- the compound with this pseudo-element, without a state
 abbrev pub with_element : Compound → List ℕ → Compound
-with_element compound element = record { kind = compound.kind; parts = compound.parts; tail = Some (record { element = element; states = [] }) }
+with_element compound element = with_tail compound (record { element = element; states = [] })
 
 -- the compound with this pseudo-element and one more state
 abbrev pub with_state : Compound → Tail → List ℕ → Compound
-with_state compound tail state = record { kind = compound.kind; parts = compound.parts; tail = Some (record { element = tail.element; states = tail.states ++ state ∷ [] }) }
+with_state compound tail state = with_tail compound (record { element = tail.element; states = tail.states ++ state ∷ [] })
 
 -- how far it is read, its lead, the compounds with a combinator behind them, and the last compound
 abbrev pub reading : Phase → Option Combinator → Front → Compound → Reading

@@ -44,7 +44,3 @@ returns-clause-escaped_lang c = simp computing (search (rules, computing))
 pub returns-clause-lang_as_it_prints : goal.returns-clause-lang_as_it_prints
 unfolding digits chars encode
 returns-clause-lang_as_it_prints c = simp computing (search (rules, computing))
-
-pub returns-clause-printed_class : goal.returns-clause-printed_class
-unfolding digits chars encode
-returns-clause-printed_class c = simp computing (search (rules, computing))

@@ -1,8 +1,8 @@
-use Rattle.std.proofs.Common.{◌≡◌, List, map, sym, ◌∙◌, ap}
+use Rattle.std.proofs.Common.{List, sym, ◌∙◌, ap}
 use Rattle.css_tokens.specs.declared.component.Component.{Component}
 use Rattle.selector_tree.specs.Signs.{list_reading, read}
 use Rattle.selector_tree.proofs.MarkPlaces.{reading-bare}
-use Rattle.selector_tree.proofs.TreePlaces.{bare, same-bare}
+use Rattle.selector_types.proofs.TreePlaces.{same-bare}
 use Rattle.selector_tree.proofs.laws.places_are_not_read.Goals as goal
 
 pub returns : goal.returns

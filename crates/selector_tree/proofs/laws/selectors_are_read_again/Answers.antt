@@ -1,14 +1,13 @@
-use Rattle.std.proofs.Common.{◌∙◌, Some, ap, map, option_map, sym}
-use Rattle.selector_tree.specs.Erased.{erased}
+use Rattle.std.proofs.Common.{◌∙◌, ap, sym}
 use Rattle.selector_tree.specs.Signs.{list_reading, read}
-use Rattle.selector_tree.specs.Spelling.{list_spelling}
+use Rattle.selector_types.specs.Spelling.{list_spelling}
 use Rattle.selector_tree.proofs.ListAgain.{list-again}
 use Rattle.selector_tree.proofs.MarkPlaces.{reading-bare}
 use Rattle.selector_tree.proofs.MarksReadable.{reading-readable}
 use Rattle.css_tokens.specs.NameText.{name_text}
-use Rattle.selector_tree.proofs.SpellingHolds.{list-formed, list-bare}
+use Rattle.selector_types.proofs.SpellingHolds.{list-formed, list-bare}
 use Rattle.selector_tree.proofs.StepAgain.{step-again}
-use Rattle.selector_tree.proofs.TreePlaces.{same-bare}
+use Rattle.selector_types.proofs.TreePlaces.{same-bare}
 use Rattle.selector_tree.proofs.laws.selectors_are_read_again.Goals as goal
 
 pub returns-clause-formed : goal.returns-clause-formed

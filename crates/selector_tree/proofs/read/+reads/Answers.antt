@@ -1,24 +1,15 @@
-use Rattle.std.proofs.Common.{◌≡◌, ℕ, List, drop, map, ap, sym, subst, ◌∙◌, ◌+◌, rules}
-use Rattle.std.specs.Prelude.{Result}
-use Rattle.std.specs.Result.{IsErrAnd}
+use Rattle.std.proofs.Common.{List, drop, map, ap, sym, ◌∙◌, ◌+◌}
 use Rattle.std.proofs.Math.ListN.{drop_of_length-le}
 use Rattle.std.proofs.lemmas.List.Folds.{list_all-map}
-use Rattle.std.proofs.lemmas.Result.{err_from_is_err_and}
 use Rattle.css_tokens.specs.declared.component.Component.{Component}
-use Rattle.selector_tree.specs.declared.fault.SelectorFault.{SelectorFault}
-use Rattle.selector_tree.specs.declared.fault.SelectorFault.TheVariants as faults
 use Rattle.selector_tree.specs.declared.reading.Listing.{Listing}
-use Rattle.selector_tree.specs.declared.selector.Selector.{Selector}
 use Rattle.selector_tree.specs.declared.sign.Callee.{Callee}
-use Rattle.selector_tree.specs.declared.sign.Sign.{Sign}
-use Rattle.selector_tree.specs.Faults.{FaultIs}
-use Rattle.selector_tree.specs.Grammar.{marks_reading}
 use Rattle.selector_tree.specs.Signs.{call_by, callee_of, is_gap, mark_of}
-use Rattle.selector_tree.specs.Private.ReadingSteps.{behind_list, fresh, list_from, listing_step, Reads}
+use Rattle.selector_tree.specs.Private.ReadingSteps.{behind_list, fresh, list_from}
 use Rattle.selector_tree.proofs.SignsRead.{behind-none, list-fresh}
-use Rattle.selector_tree.proofs.ListingReads.{step-reads, step-fault}
+use Rattle.selector_tree.proofs.ListingReads.{step-reads}
 use Rattle.selector_tree.proofs.ResultLemmas.{if_ok_map}
-use Rattle.selector_tree.proofs.WritingLemmas.{at-item}
+use Rattle.selector_types.proofs.WritingLemmas.{at-item}
 use Rattle.selector_tree.proofs.read.+reads.Goals as goal
 
 pub listing_of-loop-component-init : goal.listing_of-loop-component-init
@@ -35,8 +26,7 @@ listing_of-loop-component-preserved t c = λ end.
     let all = c.args.components.now in
     let m = mark_of c.component-item.result in
     let here = at-item all i c.component-item.result c.loop-component-test.true c.component-item.is in
-    let found = ap (λ (w : Sign). listing_step c.args.nested l w m.at) (sym c.in_ok-sign.ensures) ∙ ap (λ (n : ℕ). listing_step c.args.nested l c.in_ok-sign.sign n) (sym c.place_of-at.ensures) ∙ c.in_ok-step.ensures.found in
-    step-reads c.args.nested l c.step.new.self m (map mark_of (drop (i + 1) all)) end found
+    step-reads c.args.nested l c.step_over.new.listing m (map mark_of (drop (i + 1) all)) end c.in_default.ensures.found
     ∙ ap (λ (cs : List Component). behind_list l.list (list_from c.args.nested l.pending (map mark_of cs) end)) (sym here)
     ∙ c.loop-component.invariant end)
 
@@ -45,30 +35,6 @@ listing_of-returns t c = λ end.
     (let l = c.loop-component.listing in
     ap (λ (cs : List Component). behind_list l.list (list_from c.args.nested l.pending (map mark_of cs) end)) (sym (drop_of_length-le c.args.components.now c.loop-component-test.false))
     ∙ c.loop-component.invariant end)
-
-pub listing_of-returns-in_err-sign : goal.listing_of-returns-in_err-sign
-listing_of-returns-in_err-sign t c =
-    let ms = map mark_of c.args.components.now in
-    let memory : IsErrAnd c.from_residual.result (λ e. e ≡ faults.Memory) = search rules in
-    let e = err_from_is_err_and c.from_residual.result memory in
-    subst (λ (r : Result Listing SelectorFault). Reads c.args.nested r ms) (sym e.1)
-    (λ end. subst (λ (f : SelectorFault). FaultIs f (marks_reading c.args.nested ms end)) (sym e.2) tt)
-
-pub listing_of-returns-in_err-step : goal.listing_of-returns-in_err-step
-listing_of-returns-in_err-step t c =
-    let l = c.loop-component.listing in
-    let i = c.loop-component.component-index in
-    let all = c.args.components.now in
-    let m = mark_of c.component-item.result in
-    let here = at-item all i c.component-item.result c.loop-component-test.true c.component-item.is in
-    let fault : IsErrAnd c.from_residual-in_err-step.result (λ e. FaultIs e (listing_step c.args.nested l c.in_ok-sign.sign c.place_of-at.result)) = search rules in
-    let e = err_from_is_err_and c.from_residual-in_err-step.result fault in
-    let same = ap (λ (w : Sign). listing_step c.args.nested l w c.place_of-at.result) c.in_ok-sign.ensures ∙ ap (λ (n : ℕ). listing_step c.args.nested l m.sign n) c.place_of-at.ensures in
-    subst (λ (r : Result Listing SelectorFault). Reads c.args.nested r (map mark_of all)) (sym e.1)
-    (λ end.
-    subst (λ (r : Result (List Selector) ℕ). FaultIs e.0 r)
-    (ap (λ (cs : List Component). behind_list l.list (list_from c.args.nested l.pending (map mark_of cs) end)) (sym here) ∙ c.loop-component.invariant end)
-    (step-fault c.args.nested l m (map mark_of (drop (i + 1) all)) end e.0 (subst (λ (r : Result Listing ℕ). FaultIs e.0 r) same e.2)))
 
 pub call_of-returns-then-takes_list : goal.call_of-returns-then-takes_list
 call_of-returns-then-takes_list t c =

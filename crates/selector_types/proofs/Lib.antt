@@ -1,0 +1,15 @@
+pub mod CountLemmas
+pub mod Computing
+pub mod SpellingTexts
+pub mod WritingLemmas
+pub mod LoneLemmas
+pub mod TreePlaces
+pub mod SpellingHolds
+pub mod LowerNames
+pub mod WordReads
+pub mod PartReads
+pub mod StepTexts
+pub mod StepReads
+pub mod PseudoReads
+pub mod TextReads
+pub mod PreludeWords

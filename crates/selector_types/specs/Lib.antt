@@ -1,0 +1,16 @@
+pub mod SelectorFold
+pub mod SelectorInduction
+pub mod BareFold
+pub mod Erased
+pub mod SameErased
+pub mod PartsWithin
+pub mod PartsFound
+pub mod LoneSimples
+pub mod Specificities
+pub mod Samples
+pub mod Names
+pub mod Spelling
+pub mod AnPlusB
+pub mod ReadableSelectors
+pub mod Preludes
+pub mod Private
