@@ -13,7 +13,7 @@ use Rattle.css_tokens.specs.NameText.{char_text, first_text, needs_code, stands_
 use Rattle.css_tokens.specs.Names.{is_name}
 use Rattle.css_tokens.specs.Tokens.{is_control}
 use Rattle.css_tokens.specs.Trees.{is_text}
-use Rattle.selector_tree.specs.ReadableSelectors.{is_clean}
+use Rattle.selector_types.specs.ReadableSelectors.{is_clean}
 
 -- Texts one after another.
 

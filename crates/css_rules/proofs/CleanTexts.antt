@@ -14,12 +14,12 @@ use Rattle.css_tokens.specs.Tokens.{bad_place, broken_place, is_control, mark_le
 use Rattle.css_tokens.specs.Trees.{words_all}
 use Rattle.css_tokens.specs.Values.{is_gap, is_white, short_word, single_gaps, after_gap, word_kind, shortened_words, printed_words, value_words, value_text}
 use Rattle.css_rules.specs.declared.sheet.Declaration.{Declaration}
-use Rattle.selector_tree.specs.declared.selector.Selector.{Selector}
-use Rattle.selector_tree.specs.Erased.{erased}
-use Rattle.selector_tree.specs.Spelling.{list_text}
+use Rattle.selector_types.specs.declared.selector.Selector.{Selector}
+use Rattle.selector_types.specs.Erased.{erased}
+use Rattle.selector_types.specs.Spelling.{list_text}
 use Rattle.css_rules.specs.Contexts.{outside, under_list}
 use Rattle.css_rules.specs.Printable.{IsPrintableDeclaration, ArePrintable}
-use Rattle.selector_tree.specs.ReadableSelectors.{is_clean, is_named, is_readable_list, is_spelled}
+use Rattle.selector_types.specs.ReadableSelectors.{is_clean, is_named, is_readable_list, is_spelled}
 use Rattle.css_rules.specs.Runs.{Run}
 use Rattle.css_rules.specs.SheetTexts.{braced_text, declaration_text, declarations_text, importance_text, innermost, more_declarations, printed_value, run_text, runs_text}
 use Rattle.css_rules.proofs.CleanNames.{clean-append, clean-parts, name-clean, plain-clean}

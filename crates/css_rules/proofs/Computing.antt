@@ -8,22 +8,22 @@ use Rattle.css_tokens.specs.Piece.{Piece}
 use Rattle.css_tokens.specs.Trees.{closing, pieces_all, pieces_of, pieces_of-Single, pieces_of-Block}
 use Rattle.css_tokens.specs.ValueAgain.{head_kind-Single, parted_within-Single, shortened-Single, takes_last-Single}
 use Rattle.std.specs.Prelude.{Option}
-use Rattle.selector_tree.specs.declared.selector.Combinator.{Combinator}
-use Rattle.selector_tree.specs.declared.selector.TypeName.{TypeName}
-use Rattle.selector_tree.specs.declared.selector.Tail as tail
-use Rattle.selector_tree.specs.declared.selector.Compound as compound
-use Rattle.selector_tree.specs.declared.selector.Link as link
-use Rattle.selector_tree.specs.declared.selector.Part as part
-use Rattle.selector_tree.specs.declared.selector.Link.TheVariants.{outs-Linked}
-use Rattle.selector_tree.specs.SelectorFold.{Steps, made_part, made_link, folded_compound, folded_selector, folded-Class, folded-Id, folded-Attribute, folded-Pseudo, folded-Not, folded-Is, folded-Where, folded-Parent, folded-Local, folded-Global, folded-Foreign, folded-Compound, folded-Selector}
+use Rattle.selector_types.specs.declared.selector.Combinator.{Combinator}
+use Rattle.selector_types.specs.declared.selector.TypeName.{TypeName}
+use Rattle.selector_types.specs.declared.selector.Tail as tail
+use Rattle.selector_types.specs.declared.selector.Compound as compound
+use Rattle.selector_types.specs.declared.selector.Link as link
+use Rattle.selector_types.specs.declared.selector.Part as part
+use Rattle.selector_types.specs.declared.selector.Link.TheVariants.{outs-Linked}
+use Rattle.selector_types.specs.SelectorFold.{Steps, made_part, made_link, folded_compound, folded_selector, folded-Class, folded-Id, folded-Attribute, folded-Pseudo, folded-Not, folded-Is, folded-Where, folded-Parent, folded-Local, folded-Global, folded-Foreign, folded-Compound, folded-Selector}
 use Rattle.selector_tree.specs.Signs.{mark_of, mark_of-Single, mark_of-Block, block_mark}
 use Rattle.css_rules.specs.Erased.{erased-Single}
 use Rattle.css_rules.specs.Contexts.{Context, under_list}
-use Rattle.selector_tree.specs.declared.selector.Selector.{Selector}
+use Rattle.selector_types.specs.declared.selector.Selector.{Selector}
 use Rattle.css_rules.specs.declared.sheet.Item.{Item}
 use Rattle.css_rules.specs.declared.sheet.Item as item
 use Rattle.css_rules.specs.declared.sheet.Item.TheOpen.{Style}
-use Rattle.selector_tree.specs.Erased.{erased as erased_selector}
+use Rattle.selector_types.specs.Erased.{erased as erased_selector}
 use Rattle.css_rules.specs.SheetTexts.{block_text, item_text, printed_item, printed_item-Plain, printed_item-Style, rule_text}
 use Rattle.css_rules.specs.Runs.{runs_within, runs_within-Plain, runs_within-Style}
 

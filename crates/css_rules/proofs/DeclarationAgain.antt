@@ -22,7 +22,7 @@ use Rattle.css_rules.specs.Runs.{bare_declaration}
 use Rattle.css_rules.specs.Printable.{IsPrintableDeclaration, begins_solid}
 use Rattle.css_rules.proofs.Heads.{word, single_of}
 use Rattle.css_rules.specs.SheetAgain.{value_or_space, importance_again, declaration_again}
-use Rattle.selector_tree.specs.Spelling.{colon, space}
+use Rattle.selector_types.specs.Spelling.{colon, space}
 use Rattle.css_rules.proofs.CutLemmas.{goes_on, not-true, trimmed_start-gap, trimmed_start-other, trimmed_end-other, trimmed_end-gap}
 use Rattle.css_rules.proofs.DeclarationLemmas.{or_false_left, or_false_right}
 use Rattle.css_rules.proofs.CutAgain.{cuts-front, cuts-whole, any-append, trimmed_end-solid, any-trimmed_end}

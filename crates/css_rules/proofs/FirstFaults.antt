@@ -10,7 +10,7 @@ use Rattle.css_tokens.specs.declared.component.Component.TheVariants.{outs-Singl
 use Rattle.css_tokens.specs.Piece.{Piece}
 use Rattle.css_tokens.specs.Pairing.{places_rise}
 use Rattle.css_tokens.specs.Trees.{pieces_of, pieces_all, closing, pieces_of-Single, pieces_of-Block}
-use Rattle.selector_tree.specs.declared.selector.Selector.{Selector}
+use Rattle.selector_types.specs.declared.selector.Selector.{Selector}
 use Rattle.selector_tree.specs.Grammar.{Mark, Member, is_comma_sign, is_gap_sign, selector_of, empty_before, with_mark, cut_at_commas, fault_place, or_fault, member_reading, first_and, members_reading}
 use Rattle.selector_tree.specs.Signs.{mark_of, list_reading}
 use Rattle.css_rules.specs.Components.{Layer, head, layer_head, place_of}

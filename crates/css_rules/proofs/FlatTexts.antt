@@ -8,8 +8,8 @@ use Rattle.css_rules.specs.Contexts.{outside, under_list}
 use Rattle.css_rules.specs.declared.sheet.Declaration.{Declaration}
 use Rattle.css_rules.specs.declared.sheet.Item.{Item, Style as the_style}
 use Rattle.css_rules.specs.declared.sheet.Style.{Style}
-use Rattle.selector_tree.specs.declared.selector.Selector.{Selector}
-use Rattle.selector_tree.specs.Erased.{erased}
+use Rattle.selector_types.specs.declared.selector.Selector.{Selector}
+use Rattle.selector_types.specs.Erased.{erased}
 use Rattle.css_rules.specs.Cuts.{Cut, cuts}
 use Rattle.css_rules.specs.Runs.{Run, runs_of, runs_within, runs_within-Plain, runs_within-Style}
 use Rattle.css_rules.specs.declared.sheet.Sheet.{Sheet}

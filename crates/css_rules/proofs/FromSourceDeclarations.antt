@@ -6,7 +6,7 @@ use Rattle.css_tokens.specs.declared.component.Component.{Component}
 use Rattle.css_tokens.specs.Piece.{Piece}
 use Rattle.css_tokens.specs.Names.{is_name}
 use Rattle.css_tokens.specs.Trees.{all_formed, words_all}
-use Rattle.selector_tree.specs.ReadableSelectors.{is_spelled}
+use Rattle.selector_types.specs.ReadableSelectors.{is_spelled}
 use Rattle.css_rules.specs.declared.sheet.Declaration.{Declaration}
 use Rattle.css_rules.specs.Components.{head, is_ident, is_colon, is_bang, is_braces, is_semicolon, is_custom, name_of}
 use Rattle.css_rules.specs.Cuts.{Cut, cuts, cuts_at, trimmed, trimmed_start}

@@ -17,7 +17,7 @@ use Rattle.css_tokens.specs.Trees.{pieces_of, pieces_all, words_all, closing, co
 use Rattle.css_rules.specs.Components.{Layer, head, inside, layer_head, layer_items, layer_is_single, is_ident, is_ident_kind, is_gap, name_of}
 use Rattle.css_rules.specs.Cuts.{Cut, cuts_behind, with_front, trimmed, trimmed_start, trimmed_end}
 use Rattle.css_rules.specs.Printable.{begins_solid}
-use Rattle.selector_tree.specs.ReadableSelectors.{is_spelled, is_named, is_clean}
+use Rattle.selector_types.specs.ReadableSelectors.{is_spelled, is_named, is_clean}
 use Rattle.css_rules.proofs.CutLemmas.{not-true, cuts-unmarked, cuts-marked, trimmed_start-gap, trimmed_start-other}
 use Rattle.css_rules.proofs.CutAgain.{trimmed_end-solid}
 use Rattle.css_rules.proofs.Heads.{single-piece}

@@ -8,20 +8,20 @@ use Rattle.std.proofs.lemmas.List.Concat.{flat_map-append}
 use Rattle.css_tokens.specs.declared.component.Component.{Component}
 use Rattle.css_tokens.specs.Trees.{all_formed, words_all}
 use Rattle.css_rules.specs.Contexts.{outside, under_list}
-use Rattle.selector_tree.specs.declared.selector.Selector.{Selector}
+use Rattle.selector_types.specs.declared.selector.Selector.{Selector}
 use Rattle.css_rules.specs.declared.sheet.Sheet.{Sheet}
 use Rattle.css_rules.specs.declared.sheet.Declaration.{Declaration}
 use Rattle.css_rules.specs.declared.sheet.Item.{Item}
 use Rattle.css_rules.specs.declared.sheet.Item as item
 use Rattle.css_rules.specs.declared.sheet.Style as style
-use Rattle.selector_tree.specs.Erased.{erased}
+use Rattle.selector_types.specs.Erased.{erased}
 use Rattle.selector_tree.specs.Signs.{list_reading}
-use Rattle.selector_tree.specs.Spelling.{list_spelling}
+use Rattle.selector_types.specs.Spelling.{list_spelling}
 use Rattle.css_rules.specs.Components.{inside, is_braces, is_semicolon}
 use Rattle.css_rules.specs.Cuts.{Cut, cuts, trimmed_start}
 use Rattle.css_rules.specs.Printable.{is_whole, IsPrintable, IsPrintableDeclaration, ArePrintable}
 use Rattle.css_rules.specs.Refusals.{has_waiting}
-use Rattle.selector_tree.specs.ReadableSelectors.{is_readable_list, is_spelled, is_writable_list}
+use Rattle.selector_types.specs.ReadableSelectors.{is_readable_list, is_spelled, is_writable_list}
 use Rattle.css_rules.specs.Runs.{Run, runs_of, runs_within, runs_within-Plain, runs_within-Style}
 use Rattle.css_rules.specs.Sheets.{begins_at_rule, ends_rule, run_of, rule_of, sheet_of}
 use Rattle.css_rules.proofs.BoolLemmas.{and-left, and-right}

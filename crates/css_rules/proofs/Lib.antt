@@ -6,6 +6,7 @@ pub mod SoughtTold
 pub mod DeclarationLemmas
 pub mod RefusalLemmas
 pub mod ReaderLemmas
+pub mod SheetBuilderLemmas
 pub mod BoolLemmas
 pub mod WaitingLemmas
 pub mod ListsRead
@@ -14,6 +15,7 @@ pub mod TreeTexts
 pub mod PreludeTests
 pub mod WaitingTrees
 pub mod WaitingSigns
+pub mod WaitingParts
 pub mod MarkPlaces
 pub mod SheetsRead
 pub mod Heads
@@ -22,9 +24,11 @@ pub mod ValueFacts
 pub mod SoughtAgain
 pub mod DeclarationAgain
 pub mod SheetRound
+pub mod FlatRules
 pub mod PreludeAgain
 pub mod RulesAgain
 pub mod RuleShapes
+pub mod PlainRules
 pub mod FromSourceNames
 pub mod FromSourceParts
 pub mod FromSourceDeclarations

@@ -2,7 +2,7 @@
 use Rattle.std.proofs.Common.{◌≡◌, ℕ, List, [], ◌∷◌, map, Bool, false, Option, Some, None, refl, sym, ◌∙◌, ap, option_map}
 use Rattle.std.specs.Prelude.{Result, Ok, Err}
 use Rattle.css_tokens.specs.declared.component.Component.{Component}
-use Rattle.selector_tree.specs.declared.selector.Selector.{Selector}
+use Rattle.selector_types.specs.declared.selector.Selector.{Selector}
 use Rattle.selector_tree.specs.Grammar.{Mark, Member, or_fault, first_and, fault_place, members_reading, marks_reading, cut_at_commas, selector_of}
 use Rattle.selector_tree.specs.Signs.{list_in, list_reading, mark_of, read}
 

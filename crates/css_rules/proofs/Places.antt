@@ -1,20 +1,20 @@
 -- What a sheet says does not depend on the places of its tokens.
 use Rattle.std.proofs.Common.{◌≡◌, ℕ, List, [], ◌∷◌, ◌++◌, map, flat_map, Bool, true, false, ◌||◌, ◌&&◌, cond, Option, Some, None, option_map, refl, sym, ◌∙◌, ap, IsTrue}
-use Rattle.std.proofs.lemmas.List.{map-append, map-id, append-nil}
-use Rattle.std.proofs.lemmas.Grind.{flat_map-append}
+use Rattle.std.proofs.lemmas.List.{map-append, map-id}
 use Rattle.css_tokens.specs.declared.component.Component.{Component}
 use Rattle.css_tokens.specs.Trees.{words_all, all_formed, is_formed}
 use Rattle.std.specs.List.{AllByRecursion}
 use Rattle.css_rules.specs.Contexts.{outside, under_list}
-use Rattle.selector_tree.specs.declared.selector.Selector.{Selector}
+use Rattle.selector_types.specs.declared.selector.Selector.{Selector}
 use Rattle.css_rules.specs.declared.sheet.Declaration.{Declaration}
 use Rattle.css_rules.specs.declared.sheet.Item.{Item}
 use Rattle.css_rules.specs.declared.sheet.Item as item
 use Rattle.css_rules.specs.declared.sheet.Style as style
-use Rattle.selector_tree.specs.Erased.{erased as erased_selector}
+use Rattle.selector_types.specs.Erased.{erased as erased_selector}
 use Rattle.selector_tree.specs.Signs.{list_in, mark_of}
 use Rattle.css_rules.specs.Components.{inside, is_braces, is_semicolon}
 use Rattle.css_rules.specs.Cuts.{Cut, cuts, trimmed, trimmed_start}
+use Rattle.css_rules.specs.BareRules.{bare_rule, bare_rules}
 use Rattle.css_rules.specs.ReadAll.{joined, read_all}
 use Rattle.css_rules.specs.Refusals.{has_waiting}
 use Rattle.css_rules.specs.Sheets.{begins_at_rule, ends_rule, declarations_of, run_of, prelude_of, style_with, leftover, style_of, rule_of, rules_of, sheet_of}
@@ -25,10 +25,8 @@ use Rattle.css_rules.proofs.WaitingLemmas.{waiting-words}
 use Rattle.css_rules.specs.Erased.{erased}
 use Rattle.css_rules.proofs.PlacesLayers.{inside-erased}
 use Rattle.css_rules.proofs.PlacesCuts.{erased_cut, erased_declaration, at_rule-erased, cuts-erased, declarations-erased, bares-erased, ends_rule-erased, trimmed-erased}
+use Rattle.css_rules.proofs.FlatRules.{flat-sheet}
 use Rattle.css_rules.proofs.ReadAllLemmas.{mapped-all}
-
-abbrev item_runs : Item → List Run
-item_runs item = runs_within item outside
 
 -- what a style rule says
 abbrev said : List Selector → List BareDeclaration → List BareRun
@@ -39,30 +37,26 @@ inner-runs : (list : List Selector) (ds : List Declaration) → map bare_run (fl
 inner-runs list [] = refl
 inner-runs list (d ∷ ds) = ap (λ (rs : List Run). map bare_run (rs ++ [])) (runs_within-Plain (d ∷ ds) (under_list list outside))
 
-rule-runs : (s : style.Style) (ds : List Declaration) → s.items ≡ run_of ds → map bare_run (flat_map item_runs (item.Style s ∷ [])) ≡ said (map erased_selector s.selectors) (map bare_declaration ds)
+rule-runs : (s : style.Style) (ds : List Declaration) → s.items ≡ run_of ds → bare_rule (item.Style s) ≡ said (map erased_selector s.selectors) (map bare_declaration ds)
 rule-runs s ds is =
-    ap (map bare_run) (append-nil (runs_within (item.Style s) outside))
-    ∙ ap (map bare_run) (runs_within-Style s outside)
+    ap (map bare_run) (runs_within-Style s outside)
     ∙ ap (λ (items : List Item). map bare_run (flat_map (λ inner. runs_within inner (under_list (map erased_selector s.selectors) outside)) items)) is
     ∙ inner-runs (map erased_selector s.selectors) ds
 
--- what the items say
-abbrev items_say : List Item → List BareRun
-items_say items = map bare_run (flat_map item_runs items)
-
-both-say : (xs ys : List Item) → items_say (xs ++ ys) ≡ items_say xs ++ items_say ys
-both-say xs ys = ap (map bare_run) (flat_map-append item_runs xs ys) ∙ map-append bare_run (flat_map item_runs xs) (flat_map item_runs ys)
+-- what the items say, each for itself
+abbrev items_say : List Item → List (List BareRun)
+items_say items = map bare_rule items
 
 -- what a style rule of these lists says, where there are both
-abbrev said_by : Option (List Selector) → Option (List BareDeclaration) → Option (List BareRun)
+abbrev said_by : Option (List Selector) → Option (List BareDeclaration) → Option (List (List BareRun))
 said_by None ds = None
 said_by (Some list) None = None
-said_by (Some list) (Some ds) = Some (said list ds)
+said_by (Some list) (Some ds) = Some (said list ds ∷ [])
 
 style-says : (at : ℕ) (o : Option (List Selector)) (p : Option (List Declaration)) → option_map items_say (style_with at o p) ≡ said_by (option_map (map erased_selector) o) (option_map (map bare_declaration) p)
 style-says at None p = refl
 style-says at (Some list) None = refl
-style-says at (Some list) (Some ds) = ap Some (rule-runs (record { selectors = list; items = run_of ds; at = at }) ds refl)
+style-says at (Some list) (Some ds) = ap (λ (rs : List BareRun). Some (rs ∷ [])) (rule-runs (record { selectors = list; items = run_of ds; at = at }) ds refl)
 
 declarations-say : (o : Option (List Declaration)) → option_map (map bare_declaration) (option_map (map erased_declaration) o) ≡ option_map (map bare_declaration) o
 declarations-say None = refl
@@ -106,18 +100,18 @@ rule-erased places cut formed =
     at false = style-erased places cut.front cut.mark formed
 
 -- what is said by what is read of a rule
-abbrev rule_says : Cut → Option (List BareRun)
+abbrev rule_says : Cut → Option (List (List BareRun))
 rule_says cut = option_map items_say (rule_of cut)
 
-sheet-says : (cs : List Component) → option_map bare_runs (sheet_of cs) ≡ read_all rule_says (cuts ends_rule cs)
-sheet-says cs = at (rules_of cs) ∙ mapped-all items_say rule_of rule_says (λ cut. cut) refl both-say (λ cut. refl) (cuts ends_rule cs) ∙ ap (read_all rule_says) (map-id (cuts ends_rule cs))
+sheet-says : (cs : List Component) → option_map bare_rules (sheet_of cs) ≡ read_all rule_says (cuts ends_rule cs)
+sheet-says cs = at (rules_of cs) ∙ mapped-all items_say rule_of rule_says (λ cut. cut) refl (λ xs ys. map-append bare_rule xs ys) (λ cut. refl) (cuts ends_rule cs) ∙ ap (read_all rule_says) (map-id (cuts ends_rule cs))
   where
-    at : (o : Option (List Item)) → option_map bare_runs (option_map (λ items. record { items = items }) o) ≡ option_map items_say o
+    at : (o : Option (List Item)) → option_map bare_rules (option_map (λ items. record { items = items }) o) ≡ option_map items_say o
     at None = refl
     at (Some items) = refl
 
 -- a sheet says the same with each place at 0
-pub sheet-erased : ListPlaces → (cs : List Component) → all_formed cs ≡ true → option_map bare_runs (sheet_of (map erased cs)) ≡ option_map bare_runs (sheet_of cs)
+pub sheet-erased : ListPlaces → (cs : List Component) → all_formed cs ≡ true → option_map bare_rules (sheet_of (map erased cs)) ≡ option_map bare_rules (sheet_of cs)
 sheet-erased places cs formed =
     sheet-says (map erased cs)
     ∙ ap (read_all rule_says) (cuts-erased ends_rule ends_rule-erased [] cs)
@@ -128,9 +122,16 @@ sheet-erased places cs formed =
     cuts-say [] each = refl
     cuts-say (k ∷ ks) each = ap (λ o. joined o (read_all rule_says (map erased_cut ks))) (sym (rule-erased places k each.0.kept)) ∙ ap (joined (rule_says k)) (cuts-say ks each.1)
 
--- the same words have sheets that say the same, or none has
+-- the same words have sheets whose rules say the same, or none has
+pub rules-places : OnePairing → ListPlaces → (a b : List Component) → words_all a ≡ words_all b → IsTrue (all_formed a) → IsTrue (all_formed b) → option_map bare_rules (sheet_of a) ≡ option_map bare_rules (sheet_of b)
+rules-places one places a b words formed_a formed_b =
+    sym (sheet-erased places a formed_a)
+    ∙ ap (λ cs. option_map bare_rules (sheet_of cs)) (same-erased one a b words formed_a formed_b)
+    ∙ sheet-erased places b formed_b
+
+-- and so sheets that say the same
 pub sheet-places : OnePairing → ListPlaces → (a b : List Component) → words_all a ≡ words_all b → IsTrue (all_formed a) → IsTrue (all_formed b) → option_map bare_runs (sheet_of a) ≡ option_map bare_runs (sheet_of b)
 sheet-places one places a b words formed_a formed_b =
-    sym (sheet-erased places a formed_a)
-    ∙ ap (λ cs. option_map bare_runs (sheet_of cs)) (same-erased one a b words formed_a formed_b)
-    ∙ sheet-erased places b formed_b
+    flat-sheet (sheet_of a)
+    ∙ ap (option_map (flat_map (λ (rs : List BareRun). rs))) (rules-places one places a b words formed_a formed_b)
+    ∙ sym (flat-sheet (sheet_of b))

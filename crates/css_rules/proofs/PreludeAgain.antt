@@ -4,7 +4,7 @@ use Rattle.css_tokens.specs.declared.kind.Kind.TheVariants as kinds
 use Rattle.css_tokens.specs.declared.component.Component.{Component}
 use Rattle.css_tokens.specs.Piece.{Piece, Word, word_of}
 use Rattle.css_tokens.specs.Trees.{words_all, pieces_all, pieces_of-Single}
-use Rattle.selector_tree.specs.declared.selector.Selector.{Selector}
+use Rattle.selector_types.specs.declared.selector.Selector.{Selector}
 use Rattle.selector_tree.specs.declared.sign.Sign.{Sign}
 use Rattle.selector_tree.specs.declared.sign.Sign.TheVariants as signs
 use Rattle.selector_tree.specs.Grammar.{Mark, cut_at_commas, first_and, first_place, members_reading, fault_place, or_fault, selector_of, selector_of_runs, lead_of as leading, behind_lead, runs_of, spaced, stripped, white_before, with_mark}

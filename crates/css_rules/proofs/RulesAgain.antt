@@ -1,33 +1,34 @@
 -- A printed sheet is read as that sheet, rule by rule.
-use Rattle.std.proofs.Common.{◌≡◌, ℕ, List, [], ◌∷◌, ◌++◌, map, flat_map, Bool, true, false, ◌&&◌, ◌||◌, not, Option, Some, None, option_map, refl, sym, ◌∙◌, ap, subst, cond, IsTrue, codes}
+use Rattle.std.proofs.Common.{◌≡◌, ℕ, List, [], ◌∷◌, ◌++◌, map, Bool, true, false, ◌&&◌, ◌||◌, not, Option, Some, None, option_map, refl, sym, ◌∙◌, ap, subst, cond, IsTrue, codes}
 use Rattle.std.specs.List.{list_all, list_any, AllByRecursion}
 use Rattle.std.proofs.lemmas.List.{append_assoc, append-nil}
 use Rattle.css_tokens.specs.declared.kind.Kind.TheVariants as kinds
 use Rattle.css_tokens.specs.declared.component.Component.{Component}
 use Rattle.css_tokens.specs.declared.component.Block as block
 use Rattle.css_tokens.specs.Trees.{all_formed, words_all}
-use Rattle.selector_tree.specs.Preludes.{is_prelude_word}
+use Rattle.selector_types.specs.Preludes.{is_prelude_word}
 use Rattle.css_rules.specs.Contexts.{Context, outside, under_list}
 use Rattle.css_rules.specs.declared.sheet.Declaration.{Declaration}
 use Rattle.css_rules.specs.declared.sheet.Item.{Item}
 use Rattle.css_rules.specs.declared.sheet.Item as item
 use Rattle.css_rules.specs.declared.sheet.Style as style
-use Rattle.std.proofs.lemmas.Grind.{flat_map-append}
 use Rattle.std.proofs.lemmas.List.{map-append}
-use Rattle.selector_tree.specs.Erased.{erased}
-use Rattle.selector_tree.specs.Spelling.{list_spelling}
+use Rattle.selector_types.specs.Erased.{erased}
+use Rattle.selector_types.specs.Spelling.{list_spelling}
 use Rattle.selector_tree.specs.Signs.{list_in, mark_of}
 use Rattle.css_rules.specs.Components.{head, inside, is_braces, is_semicolon, is_at_keyword, is_gap}
 use Rattle.css_rules.specs.Cuts.{Cut, cuts, trimmed, trimmed_start, trimmed_end}
-use Rattle.selector_tree.specs.declared.selector.Selector.{Selector}
-use Rattle.selector_tree.specs.ReadableSelectors.{is_readable_list}
+use Rattle.selector_types.specs.declared.selector.Selector.{Selector}
+use Rattle.selector_types.specs.ReadableSelectors.{is_readable_list}
+use Rattle.css_rules.specs.BareRules.{bare_rule, bare_rules, rule_of_run}
 use Rattle.css_rules.specs.ReadAll.{joined, read_all}
 use Rattle.css_rules.specs.Sheets.{begins_at_rule, declarations_of, ends_rule, first_place, leftover, rule_of, rules_of, run_of, sheet_of, style_of, style_with}
-use Rattle.css_rules.specs.Runs.{Run, BareRun, BareDeclaration, bare_run, bare_declaration, runs_within, bare_runs, runs_within-Plain, runs_within-Style}
+use Rattle.css_rules.specs.Runs.{Run, BareRun, BareDeclaration, bare_run, bare_declaration, bare_runs, runs_within-Plain, runs_within-Style}
 use Rattle.css_rules.specs.Refusals.{has_waiting}
 use Rattle.css_rules.specs.Printable.{IsPrintable, IsPrintableDeclaration, ArePrintable}
 use Rattle.css_rules.specs.SheetAgain.{line_feed, declarations_again, block_again, run_again, sheet_again}
 use Rattle.css_rules.proofs.CutLemmas.{front-cut, goes_on, trimmed_start-gap, whole-cut}
+use Rattle.css_rules.proofs.FlatRules.{flat-read}
 use Rattle.css_rules.proofs.ReadAllLemmas.{mapped-joined}
 use Rattle.css_rules.proofs.CutAgain.{any-append, any-trimmed_end}
 use Rattle.css_rules.proofs.DeclarationLemmas.{or_false_left, or_false_right}
@@ -128,30 +129,24 @@ trimmed-lead false = refl
 abbrev pub brace_of : List Declaration → block.Block
 brace_of ds = record { opening = record { kind = kinds.Open; text = codes "{"; at = 0 }; items = declarations_again ds; close = 0 }
 
-abbrev runs_in : List Item → List Run
-runs_in items = flat_map (λ item. runs_within item outside) items
-
--- what the items say
-abbrev items_say : List Item → List BareRun
-items_say items = map bare_run (runs_in items)
-
-both-say : (xs ys : List Item) → items_say (xs ++ ys) ≡ items_say xs ++ items_say ys
-both-say xs ys = ap (map bare_run) (flat_map-append (λ item. runs_within item outside) xs ys) ∙ map-append bare_run (runs_in xs) (runs_in ys)
+-- what the items say, each for itself
+abbrev items_say : List Item → List (List BareRun)
+items_say items = map bare_rule items
 
 module _ (values : ValueLaws) (names : NameLaws) (selectors : SelectorLaws) where
   -- what the rule says that is read from a printed one
   style-says : (list : List Selector) (d : Declaration) (ds : List Declaration) (at : ℕ) → AllByRecursion IsPrintableDeclaration (d ∷ ds)
-      → items_say (item.Style (record { selectors = list; items = run_of (map read_again (d ∷ ds)); at = at }) ∷ []) ≡ record { context = under_list (map erased list) outside; declarations = map bare_declaration (d ∷ ds) } ∷ []
+      → items_say (item.Style (record { selectors = list; items = run_of (map read_again (d ∷ ds)); at = at }) ∷ []) ≡ (record { context = under_list (map erased list) outside; declarations = map bare_declaration (d ∷ ds) } ∷ []) ∷ []
   style-says list d ds at printable =
       let chain : Context = under_list (map erased list) outside in
       let rule : style.Style = record { selectors = list; items = run_of (map read_again (d ∷ ds)); at = at } in
-      ap (λ (rs : List Run). map bare_run (rs ++ [])) (runs_within-Style rule outside)
-      ∙ ap (λ (rs : List Run). map bare_run ((rs ++ []) ++ [])) (runs_within-Plain (map read_again (d ∷ ds)) chain)
-      ∙ ap (λ (bs : List BareDeclaration). record { context = chain; declarations = bs } ∷ []) (bares-again values (d ∷ ds) printable)
+      ap (λ (rs : List Run). map bare_run rs ∷ []) (runs_within-Style rule outside)
+      ∙ ap (λ (rs : List Run). map bare_run (rs ++ []) ∷ []) (runs_within-Plain (map read_again (d ∷ ds)) chain)
+      ∙ ap (λ (bs : List BareDeclaration). (record { context = chain; declarations = bs } ∷ []) ∷ []) (bares-again values (d ∷ ds) printable)
 
   -- the same where the selectors are read or not
-  abbrev said_of : List BareDeclaration → Option (List Selector) → Option (List BareRun)
-  said_of bs o = option_map (λ (list : List Selector). record { context = under_list list outside; declarations = bs } ∷ []) o
+  abbrev said_of : List BareDeclaration → Option (List Selector) → Option (List (List BareRun))
+  said_of bs o = option_map (λ (list : List Selector). (record { context = under_list list outside; declarations = bs } ∷ []) ∷ []) o
 
   styles-say : (o : Option (List Selector)) (d : Declaration) (ds : List Declaration) (at : ℕ) → AllByRecursion IsPrintableDeclaration (d ∷ ds)
       → option_map items_say (style_with at o (Some (map read_again (d ∷ ds)))) ≡ said_of (map bare_declaration (d ∷ ds)) (option_map (map erased) o)
@@ -160,7 +155,7 @@ module _ (values : ValueLaws) (names : NameLaws) (selectors : SelectorLaws) wher
 
   -- a printed rule is read as one that says the same
   rule-again : (b : Bool) (list : List Selector) (d : Declaration) (ds : List Declaration) → IsTrue (is_readable_list false list) → has_waiting (list_spelling list) ≡ false → AllByRecursion IsPrintableDeclaration (d ∷ ds)
-      → option_map items_say (rule_of (record { front = lead_of b ++ list_spelling list; mark = Some (block_again (d ∷ ds)) })) ≡ Some (record { context = under_list (map erased list) outside; declarations = map bare_declaration (d ∷ ds) } ∷ [])
+      → option_map items_say (rule_of (record { front = lead_of b ++ list_spelling list; mark = Some (block_again (d ∷ ds)) })) ≡ Some ((record { context = under_list (map erased list) outside; declarations = map bare_declaration (d ∷ ds) } ∷ []) ∷ [])
   rule-again b list d ds readable built printable =
       let front = lead_of b ++ list_spelling list in
       let brace = block_again (d ∷ ds) in
@@ -173,7 +168,7 @@ module _ (values : ValueLaws) (names : NameLaws) (selectors : SelectorLaws) wher
       ∙ styles-say read d ds at printable
       ∙ ap (said_of (map bare_declaration (d ∷ ds))) (selectors.same list readable)
 
-  rules-again : (b : Bool) (runs : List Run) → ArePrintable runs → option_map items_say (rules_of (lead_of b ++ sheet_again runs)) ≡ Some (map bare_run runs)
+  rules-again : (b : Bool) (runs : List Run) → ArePrintable runs → option_map items_say (rules_of (lead_of b ++ sheet_again runs)) ≡ Some (map rule_of_run runs)
   rules-again b [] p =
       ap (λ cs. option_map items_say (rules_of cs)) (append-nil (lead_of b))
       ∙ ap (λ ks. option_map items_say (read_all rule_of ks)) (whole-cut ends_rule [] (lead_of b) (goes-rule [] (lead_of b) (lead_braces b) (lead_semicolon b)))
@@ -181,19 +176,23 @@ module _ (values : ValueLaws) (names : NameLaws) (selectors : SelectorLaws) wher
   rules-again b (run ∷ runs) p =
       let m = made run p.0 in
       let ds = m.first ∷ m.more in
-      let Again : Run → Type 0 = λ r. option_map items_say (rules_of (lead_of b ++ (run_again r ++ sheet_again runs))) ≡ Some (bare_run r ∷ map bare_run runs) in
+      let Again : Run → Type 0 = λ r. option_map items_say (rules_of (lead_of b ++ (run_again r ++ sheet_again runs))) ≡ Some (rule_of_run r ∷ map rule_of_run runs) in
       subst Again (sym m.is)
       (let cut : Cut = record { front = lead_of b ++ list_spelling m.list; mark = Some (block_again ds) } in
       ap (λ (front : List Component). option_map items_say (rules_of (lead_of b ++ ((front ++ block_again ds ∷ line_feed ∷ []) ++ sheet_again runs)))) (spelling-erased m.list)
       ∙ ap (λ ks. option_map items_say (read_all rule_of ks)) (cut-again selectors b m.list ds (sheet_again runs))
-      ∙ mapped-joined items_say both-say (rule_of cut) (rules_of (lead_of true ++ sheet_again runs))
+      ∙ mapped-joined items_say (λ xs ys. map-append bare_rule xs ys) (rule_of cut) (rules_of (lead_of true ++ sheet_again runs))
       ∙ ap (λ o. joined o (option_map items_say (rules_of (lead_of true ++ sheet_again runs)))) (rule-again b m.list m.first m.more m.readable m.built m.each)
-      ∙ ap (option_map (λ more. record { context = under_list (map erased m.list) outside; declarations = map bare_declaration ds } ∷ more)) (rules-again true runs p.1))
+      ∙ ap (option_map (λ more. (record { context = under_list (map erased m.list) outside; declarations = map bare_declaration ds } ∷ []) ∷ more)) (rules-again true runs p.1))
 
-  -- a printed sheet is read as that sheet
-  pub sheet-again : (runs : List Run) → ArePrintable runs → option_map bare_runs (sheet_of (sheet_again runs)) ≡ Some (map bare_run runs)
-  sheet-again runs p = of_rules (rules_of (sheet_again runs)) ∙ rules-again false runs p
+  -- a printed sheet is read as rules that say one run each
+  pub rules-read : (runs : List Run) → ArePrintable runs → option_map bare_rules (sheet_of (sheet_again runs)) ≡ Some (map rule_of_run runs)
+  rules-read runs p = of_rules (rules_of (sheet_again runs)) ∙ rules-again false runs p
     where
-      of_rules : (o : Option (List Item)) → option_map bare_runs (option_map (λ items. record { items = items }) o) ≡ option_map items_say o
+      of_rules : (o : Option (List Item)) → option_map bare_rules (option_map (λ items. record { items = items }) o) ≡ option_map items_say o
       of_rules None = refl
       of_rules (Some items) = refl
+
+  -- and so as that sheet
+  pub sheet-again : (runs : List Run) → ArePrintable runs → option_map bare_runs (sheet_of (sheet_again runs)) ≡ Some (map bare_run runs)
+  sheet-again runs p = flat-read (sheet_of (sheet_again runs)) runs (rules-read runs p)

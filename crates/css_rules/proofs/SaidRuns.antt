@@ -5,7 +5,7 @@ use Rattle.std.proofs.lemmas.Grind.{flat_map-append}
 use Rattle.css_rules.specs.declared.sheet.Declaration.{Declaration}
 use Rattle.css_rules.specs.declared.sheet.Item.{Item}
 use Rattle.css_rules.specs.declared.sheet.Sheet.{Sheet}
-use Rattle.selector_tree.specs.Erased.{erased}
+use Rattle.selector_types.specs.Erased.{erased}
 use Rattle.css_rules.specs.Contexts.{Context, outside, under_list}
 use Rattle.css_rules.specs.ItemInduction.{Each, by_items}
 use Rattle.css_rules.specs.Runs.{Run, bare_run, bare_runs, bare_declaration, runs_within, runs_within-Plain, runs_within-Style}

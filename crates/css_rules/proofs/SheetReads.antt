@@ -16,10 +16,10 @@ use Rattle.css_tokens.specs.Values.{value_text, value_words}
 use Rattle.css_tokens.specs.ValueAgain.{value_again}
 use Rattle.css_rules.specs.Contexts.{outside, under_list}
 use Rattle.css_rules.specs.declared.sheet.Declaration.{Declaration}
-use Rattle.selector_tree.specs.declared.selector.Selector.{Selector}
-use Rattle.selector_tree.specs.Erased.{erased}
-use Rattle.selector_tree.specs.Spelling.{colon, list_spelling, list_text}
-use Rattle.selector_tree.specs.ReadableSelectors.{is_readable_list}
+use Rattle.selector_types.specs.declared.selector.Selector.{Selector}
+use Rattle.selector_types.specs.Erased.{erased}
+use Rattle.selector_types.specs.Spelling.{colon, list_spelling, list_text}
+use Rattle.selector_types.specs.ReadableSelectors.{is_readable_list}
 use Rattle.css_rules.specs.Components.{is_gap}
 use Rattle.css_rules.specs.Runs.{Run}
 use Rattle.css_rules.specs.Printable.{IsPrintableDeclaration, ArePrintable, begins_solid}

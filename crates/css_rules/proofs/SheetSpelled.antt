@@ -11,8 +11,8 @@ use Rattle.css_tokens.specs.NameText.{name_text}
 use Rattle.css_tokens.specs.Trees.{pieces_all, pieces_of, words_all, all_formed, is_formed, is_formed-Single, is_formed-Block, pieces_of-Block, closing}
 use Rattle.css_tokens.specs.ValueAgain.{value_again}
 use Rattle.css_rules.specs.declared.sheet.Declaration.{Declaration}
-use Rattle.selector_tree.specs.declared.selector.Selector.{Selector}
-use Rattle.selector_tree.specs.Spelling.{colon, list_spelling, list_text}
+use Rattle.selector_types.specs.declared.selector.Selector.{Selector}
+use Rattle.selector_types.specs.Spelling.{colon, list_spelling, list_text}
 use Rattle.css_rules.specs.Runs.{Run}
 use Rattle.css_rules.specs.Components.{is_gap}
 use Rattle.css_rules.specs.Printable.{IsPrintable, IsPrintableDeclaration, ArePrintable, begins_solid}

@@ -1,11 +1,11 @@
 -- Selectors are spelled alike with their places at 0, and have a spelling so too.
 use Rattle.std.proofs.Common.{◌≡◌, List, [], ◌∷◌, map, true, ◌&&◌, refl, sym, ◌∙◌, ap}
 use Rattle.css_tokens.specs.declared.component.Component.{Component}
-use Rattle.selector_tree.specs.declared.selector.Selector.{Selector}
-use Rattle.selector_tree.specs.Erased.{erased}
-use Rattle.selector_tree.specs.SameErased.{same-erased}
-use Rattle.selector_tree.specs.ReadableSelectors.{writable, is_writable_selector, is_writable_list}
-use Rattle.selector_tree.specs.Spelling.{spelling, commas_between, selector_spelling, list_spelling, list_text, text_of}
+use Rattle.selector_types.specs.declared.selector.Selector.{Selector}
+use Rattle.selector_types.specs.Erased.{erased}
+use Rattle.selector_types.specs.SameErased.{same-erased}
+use Rattle.selector_types.specs.ReadableSelectors.{writable, is_writable_selector, is_writable_list}
+use Rattle.selector_types.specs.Spelling.{spelling, commas_between, selector_spelling, list_spelling, list_text, text_of}
 
 each-erased : (ss : List Selector) → map selector_spelling (map erased ss) ≡ map selector_spelling ss
 each-erased [] = refl

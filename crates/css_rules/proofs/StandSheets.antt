@@ -15,8 +15,8 @@ use Rattle.css_rules.specs.declared.sheet.Item.{Item}
 use Rattle.css_rules.specs.declared.sheet.Item as item
 use Rattle.css_rules.specs.declared.sheet.Style as style
 use Rattle.css_rules.specs.declared.sheet.Sheet.{Sheet}
-use Rattle.selector_tree.specs.declared.selector.Selector.{Selector}
-use Rattle.selector_tree.specs.Erased.{erased}
+use Rattle.selector_types.specs.declared.selector.Selector.{Selector}
+use Rattle.selector_types.specs.Erased.{erased}
 use Rattle.css_rules.specs.Components.{head, inside, is_ident, is_colon, is_bang, is_semicolon, is_braces, is_custom, name_of}
 use Rattle.css_rules.specs.Cuts.{Cut, cuts, cuts_at, trimmed, trimmed_start}
 use Rattle.css_rules.specs.Declarations.{property_name, after_colon, may_be_value, is_important, value_of, declared, declared_after, declaration_of, begins_custom}

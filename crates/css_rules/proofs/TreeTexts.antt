@@ -23,28 +23,27 @@ use Rattle.css_tokens.specs.StringText.{string_text}
 use Rattle.css_tokens.specs.Tokens.{is_control, mark_length}
 use Rattle.css_tokens.specs.Trees.{closing, closing_text, is_text, pieces_all, pieces_of-Block, words_all}
 use Rattle.css_tokens.specs.Numbers.{begins_digit}
-use Rattle.selector_tree.specs.declared.selector.Attribute.{Attribute}
-use Rattle.selector_tree.specs.declared.selector.Combinator.{Combinator}
-use Rattle.selector_tree.specs.declared.selector.Combinator.TheVariants as combinators
-use Rattle.selector_tree.specs.declared.selector.Test.{Test}
-use Rattle.selector_tree.specs.declared.selector.Test.TheVariants as tests
-use Rattle.selector_tree.specs.declared.selector.TypeName.{TypeName}
-use Rattle.selector_tree.specs.declared.selector.TypeName.TheVariants as types
-use Rattle.selector_tree.specs.declared.selector.Compound as compound
-use Rattle.selector_tree.specs.declared.selector.Link as link
-use Rattle.selector_tree.specs.declared.selector.Part as part
-use Rattle.selector_tree.specs.declared.selector.Selector.{Selector}
-use Rattle.selector_tree.specs.declared.selector.Simple.{Simple}
-use Rattle.selector_tree.specs.declared.selector.Simple as simple
-use Rattle.selector_tree.specs.declared.selector.Tail.{Tail}
-use Rattle.selector_tree.specs.Arguments.{after_digits, after_spaces, is_an_plus_b, is_blank, is_integer, is_offset, is_step, is_word}
-use Rattle.selector_tree.specs.BareFold.{placed, bare_compound, bare_selector}
-use Rattle.selector_tree.specs.Grammar.{is_old_element}
-use Rattle.selector_tree.specs.Names.{has_space, lowered, pseudo_text}
-use Rattle.selector_tree.specs.ReadableSelectors.{are_readable, has_some, has_type, is_argument_text, is_clean, is_name_text, is_pseudo_of, is_pseudo_text, is_readable_attribute, is_readable_compound, is_readable_lead, is_readable_list, is_readable_selector, is_readable_simple, is_readable_tail, is_readable_type, is_readable_value, is_step_text, name_in_text, readable}
-use Rattle.selector_tree.specs.SelectorFold.{made_part, made_link, simple_of, compound_of, combinator_of, folded-Class, folded-Id, folded-Attribute, folded-Pseudo, folded-Not, folded-Is, folded-Where, folded-Parent, folded-Local, folded-Global, folded-Foreign, folded-Compound, folded-Selector}
-use Rattle.selector_tree.specs.SelectorInduction.{Cases, by_selectors, by_simples}
-use Rattle.selector_tree.specs.Spelling.{single, block, ident, delim, colon, text_of, argument_spelling, attribute_spelling, back_spelling, before_close, before_plus, behind, call, combinator_spelling, compound_spelling, ends_in_dashes, from_plus, front_spelling, lead_spelling, links_spelling, list_spelling, list_text, more_spelling, pseudo_from, pseudo_spelling, selector_spelling, simple_spelling, spelling, state_spelling, step_spelling, tail_spelling, test_spelling, text_functions, type_spelling, unsigned, value_spelling, word_kind}
+use Rattle.selector_types.specs.declared.selector.Attribute.{Attribute}
+use Rattle.selector_types.specs.declared.selector.Combinator.{Combinator}
+use Rattle.selector_types.specs.declared.selector.Combinator.TheVariants as combinators
+use Rattle.selector_types.specs.declared.selector.Test.{Test}
+use Rattle.selector_types.specs.declared.selector.Test.TheVariants as tests
+use Rattle.selector_types.specs.declared.selector.TypeName.{TypeName}
+use Rattle.selector_types.specs.declared.selector.TypeName.TheVariants as types
+use Rattle.selector_types.specs.declared.selector.Compound as compound
+use Rattle.selector_types.specs.declared.selector.Link as link
+use Rattle.selector_types.specs.declared.selector.Part as part
+use Rattle.selector_types.specs.declared.selector.Selector.{Selector}
+use Rattle.selector_types.specs.declared.selector.Simple.{Simple}
+use Rattle.selector_types.specs.declared.selector.Simple as simple
+use Rattle.selector_types.specs.declared.selector.Tail.{Tail}
+use Rattle.selector_types.specs.AnPlusB.{after_digits, after_spaces, is_an_plus_b, is_blank, is_integer, is_offset, is_step, is_word}
+use Rattle.selector_types.specs.BareFold.{placed, bare_compound, bare_selector}
+use Rattle.selector_types.specs.Names.{has_space, is_old_element, lowered, pseudo_text}
+use Rattle.selector_types.specs.ReadableSelectors.{are_readable, has_some, has_type, is_argument_text, is_clean, is_name_text, is_pseudo_of, is_pseudo_text, is_readable_attribute, is_readable_compound, is_readable_lead, is_readable_list, is_readable_selector, is_readable_simple, is_readable_tail, is_readable_type, is_readable_value, is_step_text, name_in_text, readable}
+use Rattle.selector_types.specs.SelectorFold.{made_part, made_link, simple_of, compound_of, combinator_of, folded-Class, folded-Id, folded-Attribute, folded-Pseudo, folded-Not, folded-Is, folded-Where, folded-Parent, folded-Local, folded-Global, folded-Foreign, folded-Compound, folded-Selector}
+use Rattle.selector_types.specs.SelectorInduction.{Cases, by_selectors, by_simples}
+use Rattle.selector_types.specs.Spelling.{single, block, ident, delim, colon, text_of, argument_spelling, attribute_spelling, back_spelling, before_close, before_plus, behind, call, combinator_spelling, compound_spelling, ends_in_dashes, from_plus, front_spelling, lead_spelling, links_spelling, list_spelling, list_text, more_spelling, pseudo_from, pseudo_spelling, selector_spelling, simple_spelling, spelling, state_spelling, step_spelling, tail_spelling, test_spelling, text_functions, type_spelling, unsigned, value_spelling, word_kind}
 use Rattle.css_rules.proofs.CleanNames.{all_plain, clean-append, clean-from, is_plain_byte, name-clean, name-unmarked, plain-clean}
 use Rattle.css_rules.proofs.Heads.{word}
 use Rattle.css_rules.proofs.LowerNames.{lower-name}

@@ -14,28 +14,28 @@ use Rattle.css_tokens.specs.Names.{name_of_word}
 use Rattle.css_tokens.specs.NameText.{name_text}
 use Rattle.css_tokens.specs.Piece.{Piece}
 use Rattle.css_tokens.specs.Trees.{closing, is_text, pieces_all, pieces_of}
-use Rattle.selector_tree.specs.declared.selector.Attribute.{Attribute}
-use Rattle.selector_tree.specs.declared.selector.Combinator.{Combinator}
-use Rattle.selector_tree.specs.declared.selector.Combinator.TheVariants as combinators
-use Rattle.selector_tree.specs.declared.selector.TypeName.{TypeName}
-use Rattle.selector_tree.specs.declared.selector.TypeName.TheVariants as types
-use Rattle.selector_tree.specs.declared.selector.Compound.{Compound}
-use Rattle.selector_tree.specs.declared.selector.Part as part
-use Rattle.selector_tree.specs.declared.selector.Selector.{Selector}
-use Rattle.selector_tree.specs.declared.selector.Simple.{Simple}
-use Rattle.selector_tree.specs.declared.selector.Simple as simple
-use Rattle.selector_tree.specs.declared.selector.Link.TheVariants.{outs-Linked}
+use Rattle.selector_types.specs.declared.selector.Attribute.{Attribute}
+use Rattle.selector_types.specs.declared.selector.Combinator.{Combinator}
+use Rattle.selector_types.specs.declared.selector.Combinator.TheVariants as combinators
+use Rattle.selector_types.specs.declared.selector.TypeName.{TypeName}
+use Rattle.selector_types.specs.declared.selector.TypeName.TheVariants as types
+use Rattle.selector_types.specs.declared.selector.Compound.{Compound}
+use Rattle.selector_types.specs.declared.selector.Part as part
+use Rattle.selector_types.specs.declared.selector.Selector.{Selector}
+use Rattle.selector_types.specs.declared.selector.Simple.{Simple}
+use Rattle.selector_types.specs.declared.selector.Simple as simple
+use Rattle.selector_types.specs.declared.selector.Link.TheVariants.{outs-Linked}
 use Rattle.selector_tree.specs.declared.sign.Callee.{Callee}
 use Rattle.selector_tree.specs.declared.sign.Callee.TheVariants as callees
 use Rattle.selector_tree.specs.declared.sign.Sign.{Sign}
 use Rattle.selector_tree.specs.declared.sign.Sign.TheVariants.{Comment, White, Comma, Joint, Name, Star, Dot, Colon, Whole, Call, Other}
-use Rattle.selector_tree.specs.Arguments.{an_plus_b, lone_name, attribute_of}
-use Rattle.selector_tree.specs.BareFold.{placed, bare_simple, bare_compound, bare_selector}
-use Rattle.selector_tree.specs.Grammar.{Body, Mark, Member, Runs, Step, behind_lead, body_of, compound_of, compound_with, cut_at_commas, empty_before, fault_place, first_and, first_place, is_comma_sign, is_old_element, lead_of, link_of, marks_reading, members_reading, or_fault, run_before, runs_of, selector_at, selector_of, selector_with, sign_before, spaced, stands_before, states_of, steps_of, stripped, tailed, white_before, with_mark, with_part, with_step}
-use Rattle.selector_tree.specs.Names.{is_id, lowered, pseudo_text}
-use Rattle.selector_tree.specs.SelectorFold.{made_part, made_link, layer_compound, simple_of, folded-Class, folded-Id, folded-Attribute, folded-Pseudo, folded-Not, folded-Where, folded-Local, folded-Global, folded-Foreign, folded-Compound, folded-Selector, compound_of as compound_behind}
+use Rattle.selector_tokens.specs.Arguments.{an_plus_b, lone_name, attribute_of}
+use Rattle.selector_types.specs.BareFold.{placed, bare_simple, bare_compound, bare_selector}
+use Rattle.selector_types.specs.Names.{is_id, is_old_element, lowered, pseudo_text}
+use Rattle.selector_tree.specs.Grammar.{Body, Mark, Member, Runs, Step, behind_lead, body_of, compound_of, compound_with, cut_at_commas, empty_before, fault_place, first_and, first_place, is_comma_sign, lead_of, link_of, marks_reading, members_reading, or_fault, run_before, runs_of, selector_at, selector_of, selector_with, sign_before, spaced, stands_before, states_of, steps_of, stripped, tailed, white_before, with_mark, with_part, with_step}
+use Rattle.selector_types.specs.SelectorFold.{made_part, made_link, layer_compound, simple_of, folded-Class, folded-Id, folded-Attribute, folded-Pseudo, folded-Not, folded-Where, folded-Local, folded-Global, folded-Foreign, folded-Compound, folded-Selector, compound_of as compound_behind}
 use Rattle.selector_tree.specs.Signs.{argued, attribute_sign, call_by, call_of, callee_of, compound_in, forgiving_list, has_no_link, is_comment_kind, is_gap, kind_sign, list_in, list_reading, lone_compound, mark_of, mark_of-Single, mark_of-Block, opened_sign, read, tokens_of}
-use Rattle.selector_tree.specs.Spelling.{list_spelling}
+use Rattle.selector_types.specs.Spelling.{list_spelling}
 use Rattle.css_rules.specs.declared.waiting.Seen.{Seen}
 use Rattle.css_rules.specs.declared.waiting.Seen.TheVariants as seen
 use Rattle.css_rules.specs.Components.{Layer, is_colon_kind}
@@ -680,8 +680,12 @@ every : (cs : List Component) → Each IsCalmWithin cs
 every [] = tt
 every (c ∷ cs) = (by_components IsCalmWithin within-single within-block c, every cs)
 
--- nothing in the spelling of what is read waits either
-pub spelling-calm : (cs : List Component) (ss : List Selector) → has_waiting cs ≡ false → list_reading false cs 0 ≡ Ok ss → has_waiting (list_spelling ss) ≡ false
-spelling-calm cs ss none is =
+-- what is read where nothing waits has neither
+pub read-calm : (cs : List Component) (ss : List Selector) → has_waiting cs ≡ false → list_reading false cs 0 ≡ Ok ss → all_calm ss ≡ true
+read-calm cs ss none is =
     let signs = (components-calm cs (every cs)).signs seen.Nothing (none-seen cs none) in
-    list-quiet ss (subst (OfOk CalmList) is (marks-calm false 0 (map mark_of cs) signs))
+    subst (OfOk CalmList) is (marks-calm false 0 (map mark_of cs) signs)
+
+-- nothing in its spelling waits either
+pub spelling-calm : (cs : List Component) (ss : List Selector) → has_waiting cs ≡ false → list_reading false cs 0 ≡ Ok ss → has_waiting (list_spelling ss) ≡ false
+spelling-calm cs ss none is = list-quiet ss (read-calm cs ss none is)

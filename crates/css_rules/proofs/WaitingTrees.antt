@@ -10,23 +10,23 @@ use Rattle.css_tokens.specs.Piece.{Piece}
 use Rattle.css_tokens.specs.StringText.{string_text}
 use Rattle.css_tokens.specs.Trees.{closing, is_text, pieces_all, pieces_of}
 use Rattle.css_tokens.specs.Numbers.{begins_digit}
-use Rattle.selector_tree.specs.declared.selector.Attribute.{Attribute}
-use Rattle.selector_tree.specs.declared.selector.Combinator.{Combinator}
-use Rattle.selector_tree.specs.declared.selector.Combinator.TheVariants as combinators
-use Rattle.selector_tree.specs.declared.selector.Test.{Test}
-use Rattle.selector_tree.specs.declared.selector.Test.TheVariants as tests
-use Rattle.selector_tree.specs.declared.selector.TypeName.{TypeName}
-use Rattle.selector_tree.specs.declared.selector.TypeName.TheVariants as types
-use Rattle.selector_tree.specs.declared.selector.Compound as compound
-use Rattle.selector_tree.specs.declared.selector.Link as link
-use Rattle.selector_tree.specs.declared.selector.Part as part
-use Rattle.selector_tree.specs.declared.selector.Selector.{Selector}
-use Rattle.selector_tree.specs.declared.selector.Simple.{Simple}
-use Rattle.selector_tree.specs.declared.selector.Tail.{Tail}
-use Rattle.selector_tree.specs.BareFold.{BareSteps, placed, bare_simple, bare_compound, bare_selector}
-use Rattle.selector_tree.specs.SelectorFold.{made_part, made_link, simple_of, compound_of, combinator_of, folded-Class, folded-Id, folded-Attribute, folded-Pseudo, folded-Not, folded-Is, folded-Where, folded-Parent, folded-Local, folded-Global, folded-Foreign, folded-Compound, folded-Selector}
-use Rattle.selector_tree.specs.SelectorInduction.{Cases, by_selectors}
-use Rattle.selector_tree.specs.Spelling.{single, block, ident, delim, colon, text_of, argument_spelling, attribute_spelling, back_spelling, before_close, before_plus, behind, call, combinator_spelling, commas_between, compound_spelling, ends_in_dashes, from_plus, front_spelling, lead_spelling, links_spelling, list_spelling, more_spelling, pseudo_from, selector_spelling, simple_spelling, spelling, state_spelling, step_spelling, tail_spelling, test_spelling, text_functions, type_spelling, unsigned, value_spelling, word_kind}
+use Rattle.selector_types.specs.declared.selector.Attribute.{Attribute}
+use Rattle.selector_types.specs.declared.selector.Combinator.{Combinator}
+use Rattle.selector_types.specs.declared.selector.Combinator.TheVariants as combinators
+use Rattle.selector_types.specs.declared.selector.Test.{Test}
+use Rattle.selector_types.specs.declared.selector.Test.TheVariants as tests
+use Rattle.selector_types.specs.declared.selector.TypeName.{TypeName}
+use Rattle.selector_types.specs.declared.selector.TypeName.TheVariants as types
+use Rattle.selector_types.specs.declared.selector.Compound as compound
+use Rattle.selector_types.specs.declared.selector.Link as link
+use Rattle.selector_types.specs.declared.selector.Part as part
+use Rattle.selector_types.specs.declared.selector.Selector.{Selector}
+use Rattle.selector_types.specs.declared.selector.Simple.{Simple}
+use Rattle.selector_types.specs.declared.selector.Tail.{Tail}
+use Rattle.selector_types.specs.BareFold.{BareSteps, placed, bare_simple, bare_compound, bare_selector}
+use Rattle.selector_types.specs.SelectorFold.{made_part, made_link, simple_of, compound_of, combinator_of, folded-Class, folded-Id, folded-Attribute, folded-Pseudo, folded-Not, folded-Is, folded-Where, folded-Parent, folded-Local, folded-Global, folded-Foreign, folded-Compound, folded-Selector}
+use Rattle.selector_types.specs.SelectorInduction.{Cases, by_selectors}
+use Rattle.selector_types.specs.Spelling.{single, block, ident, delim, colon, text_of, argument_spelling, attribute_spelling, back_spelling, before_close, before_plus, behind, call, combinator_spelling, commas_between, compound_spelling, ends_in_dashes, from_plus, front_spelling, lead_spelling, links_spelling, list_spelling, more_spelling, pseudo_from, selector_spelling, simple_spelling, spelling, state_spelling, step_spelling, tail_spelling, test_spelling, text_functions, type_spelling, unsigned, value_spelling, word_kind}
 use Rattle.css_rules.specs.declared.waiting.Seen.{Seen}
 use Rattle.css_rules.specs.declared.waiting.Seen.TheVariants as seen
 use Rattle.css_rules.specs.Private.Waiting.{begun, place_seen, seen_at, seen_over}
@@ -206,7 +206,7 @@ QuietCompound k = IsCalmCompound k → IsQuiet (compound_spelling k)
 abbrev QuietSelector : Selector → Type 0
 QuietSelector s = IsCalm s → IsQuiet (selector_spelling s)
 
-abbrev all_true : List Bool → Bool
+abbrev pub all_true : List Bool → Bool
 all_true bs = list_all (λ b. b) bs
 
 parts-quiet : (ps : List part.Part) → AllByRecursion (λ p. QuietSimple (simple_of p)) ps → all_true (map (λ (p : Bool × ℕ). p.0) (map (made_part (placed calm)) ps)) ≡ true
@@ -216,7 +216,7 @@ parts-quiet (p ∷ ps) each h =
     let rest = all_true (map (λ (p : Bool × ℕ). p.0) (map (made_part (placed calm)) ps)) in
     both (simple_spelling (simple_of p)) _ (each.0 (and-left (bare_simple calm (simple_of p)) rest h)) (parts-quiet ps each.1 (and-right (bare_simple calm (simple_of p)) rest h))
 
-abbrev all_links : List (Combinator × Bool) → Bool
+abbrev pub all_links : List (Combinator × Bool) → Bool
 all_links ls = list_all (λ l. l.1) ls
 
 links-quiet : (dashes : Bool) (ls : List link.Link) → AllByRecursion (λ l. QuietCompound (compound_of l)) ls → all_links (map (made_link (placed calm)) ls) ≡ true

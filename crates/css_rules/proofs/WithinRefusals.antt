@@ -8,7 +8,7 @@ use Rattle.css_tokens.specs.Piece.{Piece}
 use Rattle.css_tokens.specs.Trees.{pieces_all}
 use Rattle.css_rules.specs.declared.refusal.Refusal.{Refusal}
 use Rattle.css_rules.specs.declared.refusal.Sought.{Sought}
-use Rattle.selector_tree.specs.declared.selector.Selector.{Selector}
+use Rattle.selector_types.specs.declared.selector.Selector.{Selector}
 use Rattle.selector_tree.specs.Signs.{list_reading}
 use Rattle.css_rules.specs.declared.sheet.Declaration.{Declaration}
 use Rattle.css_rules.specs.Components.{head, inside, is_ident, is_colon, is_bang, is_semicolon, is_braces, is_custom, name_of}

@@ -1,7 +1,7 @@
 -- What stands round a declaration (CSS Nesting 1, section 2; CSS Cascading 5, section 6.4).
 use Rattle.std.specs.Prelude.{List, [], ◌∷◌, ◌++◌}
 use Rattle.css_rules.specs.declared.sheet.LayerName.{LayerName}
-use Rattle.selector_tree.specs.declared.selector.Selector.{Selector}
+use Rattle.selector_types.specs.declared.selector.Selector.{Selector}
 
 -- a layer: its name behind those of the layers round it, the outermost first; an empty path is no layer
 abbrev pub LayerPath : Type 0

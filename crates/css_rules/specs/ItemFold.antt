@@ -1,7 +1,7 @@
 -- Functions of items by one step for each kind of item.
 use Rattle.std.specs.Prelude.{ℕ, List, map, ◌≡◌}
 use Rattle.std.proofs.Common.{◌∙◌, ap}
-use Rattle.selector_tree.specs.declared.selector.Selector.{Selector}
+use Rattle.selector_types.specs.declared.selector.Selector.{Selector}
 use Rattle.css_rules.specs.declared.sheet.Declaration.{Declaration}
 use Rattle.css_rules.specs.declared.sheet.Item.{Item}
 use Rattle.css_rules.specs.declared.sheet.Item as item

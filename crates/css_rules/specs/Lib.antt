@@ -4,10 +4,12 @@ pub mod Declarations
 pub mod Refusals
 pub mod ReadAll
 pub mod Sheets
+pub mod SheetBuilding
 pub mod SelectorFaults
 pub mod Erased
 pub mod Contexts
 pub mod Runs
+pub mod BareRules
 pub mod ItemFold
 pub mod ItemInduction
 pub mod Statements
@@ -15,6 +17,7 @@ pub mod RunStatements
 pub mod SheetTexts
 pub mod SheetAgain
 pub mod Printable
+pub mod PlainRules
 pub mod Standing
 pub mod Private
 pub mod Samples

@@ -5,10 +5,10 @@ use Rattle.css_tokens.specs.declared.component.Component.{Component}
 use Rattle.css_tokens.specs.Trees.{all_formed, words_all}
 use Rattle.css_tokens.specs.Names.{is_name}
 use Rattle.css_rules.specs.declared.sheet.Declaration.{Declaration}
-use Rattle.selector_tree.specs.declared.selector.Selector.{Selector}
-use Rattle.selector_tree.specs.Erased.{erased}
-use Rattle.selector_tree.specs.ReadableSelectors.{is_readable_list, is_spelled, is_writable_list}
-use Rattle.selector_tree.specs.Spelling.{list_spelling}
+use Rattle.selector_types.specs.declared.selector.Selector.{Selector}
+use Rattle.selector_types.specs.Erased.{erased}
+use Rattle.selector_types.specs.ReadableSelectors.{is_readable_list, is_spelled, is_writable_list}
+use Rattle.selector_types.specs.Spelling.{list_spelling}
 use Rattle.css_rules.specs.Components.{is_bang, is_semicolon, is_custom, is_gap}
 use Rattle.css_rules.specs.Declarations.{property_name, may_be_value}
 use Rattle.css_rules.specs.Refusals.{has_waiting}

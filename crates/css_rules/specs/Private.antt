@@ -2,3 +2,4 @@
 pub mod Marks
 pub mod Waiting
 pub mod Faults
+pub mod Starts

@@ -14,7 +14,7 @@ use Rattle.css_rules.specs.declared.sheet.Item.TheVariants.{outs-Style, outs-Pla
 use Rattle.css_rules.specs.declared.sheet.Item.TheOpen.{Item-F, Style, Plain, Style-F}
 use Rattle.css_rules.specs.declared.sheet.Item.TheFolds.{fold-Item, fold_out-Item}
 use Rattle.css_rules.specs.declared.sheet.Sheet.{Sheet}
-use Rattle.selector_tree.specs.Erased.{erased}
+use Rattle.selector_types.specs.Erased.{erased}
 
 -- a declaration without its place, and with its value as text
 pub record BareDeclaration : Type 0 where

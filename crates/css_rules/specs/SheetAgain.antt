@@ -5,7 +5,7 @@ use Rattle.css_tokens.specs.declared.component.Component.{Component}
 use Rattle.css_tokens.specs.ValueAgain.{value_again}
 use Rattle.css_rules.specs.declared.sheet.Declaration.{Declaration}
 use Rattle.css_rules.specs.Runs.{Run}
-use Rattle.selector_tree.specs.Spelling.{single, block, ident, colon, space, list_spelling}
+use Rattle.selector_types.specs.Spelling.{single, block, ident, colon, space, list_spelling}
 use Rattle.css_rules.specs.SheetTexts.{innermost}
 
 -- a semicolon

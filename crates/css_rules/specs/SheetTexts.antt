@@ -12,8 +12,8 @@ use Rattle.css_rules.specs.declared.sheet.Item.TheVariants.{outs-Style, outs-Pla
 use Rattle.css_rules.specs.declared.sheet.Item.TheOpen.{Item-F, Style, Plain, Style-F}
 use Rattle.css_rules.specs.declared.sheet.Item.TheFolds.{fold-Item, fold_out-Item}
 use Rattle.css_rules.specs.declared.sheet.Sheet.{Sheet}
-use Rattle.selector_tree.specs.declared.selector.Selector.{Selector}
-use Rattle.selector_tree.specs.Spelling.{list_text}
+use Rattle.selector_types.specs.declared.selector.Selector.{Selector}
+use Rattle.selector_types.specs.Spelling.{list_text}
 use Rattle.css_rules.specs.Runs.{Run}
 
 -- the text of a value; an empty one prints as one space

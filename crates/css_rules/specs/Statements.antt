@@ -7,7 +7,7 @@ use Rattle.css_rules.specs.declared.sheet.Item.{Item}
 use Rattle.css_rules.specs.declared.sheet.Item as item
 use Rattle.css_rules.specs.declared.sheet.Style as style
 use Rattle.css_rules.specs.declared.sheet.Sheet.{Sheet}
-use Rattle.selector_tree.specs.Erased.{erased}
+use Rattle.selector_types.specs.Erased.{erased}
 use Rattle.css_rules.specs.Contexts.{LayerPath, Context, outside, under_list}
 use Rattle.css_rules.specs.ItemFold.{Steps, folded, folded-Plain, folded-Style}
 use Rattle.css_rules.specs.Runs.{BareDeclaration, bare_declaration}

@@ -24,7 +24,8 @@ pub enum Mark {
     Bang,
 }
 
-fn is_semicolon(component: &Component) -> bool
+/// Whether it is a semicolon.
+pub fn is_semicolon(component: &Component) -> bool
     ensures { result ≡ is_semicolon component.now }
 {
     is_token(component) && matches!(head_of(component).kind, Kind::Semicolon)

@@ -16,7 +16,7 @@ pub fn head_of<'s, 'a>(component: &'s Component<'a>) -> &'s Token<'a>
 {
     match component {
         Component::Single(token) => token,
-        Component::Block(block) => &block.opening,
+        Component::Block(block) => &block.get().opening,
     }
 }
 
@@ -79,7 +79,7 @@ pub fn is_braces(component: &Component) -> bool
 }
 
 /// Whether it is an at-keyword.
-fn is_at_keyword(component: &Component) -> bool
+pub fn is_at_keyword(component: &Component) -> bool
     ensures { result ≡ is_at_keyword component.now }
 {
     is_token(component) && matches!(head_of(component).kind, Kind::At)

@@ -44,9 +44,9 @@ impl From<OutOfMemory> for RuleFault {
 
 /// What was read, and what it is refused for. Where it is refused, what was read means nothing.
 #[derive(Drop)]
-struct Judged<T> {
-    value: T,
-    refusal: Option<Refusal>,
+pub struct Judged<T> {
+    pub value: T,
+    pub refusal: Option<Refusal>,
 }
 
 /// Whether a text holds a word.
@@ -167,9 +167,10 @@ fn read_item<'a>(
     }
 }
 
-/// Adds what there is to a list.
-fn push_some<T: Drop>(list: &mut List<T>, item: Option<T>) -> Result<(), OutOfMemory>
-    ensures { OnOk result (list.new ≡ list.old ++ option_to_list item) }
+/// Adds what there is to a list. A refusal changes nothing.
+pub fn push_some<T: Drop>(list: &mut List<T>, item: Option<T>) -> Result<(), OutOfMemory>
+    ensures ok { OnOk result (list.new ≡ list.old ++ option_to_list item) }
+    ensures err { OnErr result (list.new ≡ list.old) }
 {
     match item {
         Some(item) => list.push(item),
@@ -248,7 +249,7 @@ fn inside<'s, 'a>(component: &'s Component<'a>) -> &'s [Component<'a>]
 {
     match component {
         Component::Single(_) => &[],
-        Component::Block(block) => block.items.as_slice(),
+        Component::Block(block) => block.get().items.as_slice(),
     }
 }
 
@@ -294,7 +295,7 @@ fn read_style<'a>(
 }
 
 /// What stands at the top before a mark and the mark, or what stands behind the last one.
-fn read_rule<'a>(
+pub fn read_rule<'a>(
     alloc: Global,
     front: &[Component<'a>],
     mark: Option<&Component<'a>>,
@@ -342,7 +343,7 @@ pub fn read_sheet<'a>(
 }
 
 /// The fault that names a refusal.
-fn fault_of(refusal: Refusal) -> RuleFault
+pub fn fault_of(refusal: Refusal) -> RuleFault
     ensures { result ≡ fault_of refusal }
 {
     match refusal.cause {
@@ -375,6 +376,3 @@ fn read_rules<'a>(
         refusal,
     })
 }
-
-#[cfg(test)]
-mod tests;

@@ -145,7 +145,7 @@ fn sought_in_one(
 {
     match component {
         Component::Single(token) => sought.at(alloc, token),
-        Component::Block(block) => sought_in_block(alloc, block, sought),
+        Component::Block(block) => sought_in_block(alloc, block.get(), sought),
     }
 }
 

@@ -1,9 +1,10 @@
+ghost use Rattle.css_rules.specs.BareRules.{bare_rules, rule_of_run};
 ghost use Rattle.css_rules.specs.SheetAgain.{sheet_again};
 ghost use Rattle.css_rules.specs.SheetTexts.{runs_text, sheet_text};
 ghost use Rattle.css_rules.specs.Standing.{AllStand};
 ghost use Rattle.css_tokens.specs.Tokens.{Reads};
 ghost use Rattle.css_rules.specs.Printable.{ArePrintable, all_whole};
-ghost use Rattle.selector_tree.specs.ReadableSelectors.{is_spelled};
+ghost use Rattle.selector_types.specs.ReadableSelectors.{is_spelled};
 ghost use Rattle.css_rules.specs.Runs.{Run, bare_run, bare_runs, runs_of};
 ghost use Rattle.css_rules.specs.Sheets.{sheet_of};
 ghost use Rattle.css_rules.specs.declared.sheet.Sheet.{Sheet};
@@ -26,10 +27,11 @@ pub fn sheets_are_printable()
 }
 
 /// The text that printable runs print as reads as components that say the same: its tokens are their words, their brackets
-/// are paired, and they spell a sheet with these runs, places aside.
+/// are paired, and they spell a sheet with these runs, places aside. No rule of that sheet is empty: each has one of the runs.
 pub fn sheets_are_read_again()
     ensures reads { (runs : List Run) → ArePrintable runs → AllStand runs → Reads (runs_text runs) (words_all (sheet_again runs)) }
     ensures formed { (runs : List Run) → ArePrintable runs → IsTrue (all_formed (sheet_again runs)) }
+    ensures rules { (runs : List Run) → ArePrintable runs → option_map bare_rules (sheet_of (sheet_again runs)) ≡ Some (map rule_of_run runs) }
     ensures same { (runs : List Run) → ArePrintable runs → option_map bare_runs (sheet_of (sheet_again runs)) ≡ Some (map bare_run runs) }
 {
     css_tokens::printed_again();

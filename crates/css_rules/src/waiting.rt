@@ -106,7 +106,7 @@ fn over_one(alloc: Global, seen: Seen, component: &Component) -> Result<Seen, Ou
 {
     match component {
         Component::Single(token) => seen.at(alloc, token),
-        Component::Block(block) => over_block(alloc, seen, block),
+        Component::Block(block) => over_block(alloc, seen, block.get()),
     }
 }
 

@@ -7,7 +7,7 @@ ghost use Rattle.css_rules.specs.Cuts.{cuts, cuts_at, trimmed};
 ghost use Rattle.css_rules.specs.SelectorFaults.{list_faults};
 ghost use Rattle.css_rules.specs.Sheets.{ends_item, ends_rule};
 ghost use Rattle.css_rules.specs.Samples.{at_keyword, braces, dot, semicolon};
-ghost use Rattle.selector_tree.specs.Samples.{source, laid, ident, space, comment, comma, colon};
+ghost use Rattle.selector_types.specs.Samples.{source, laid, ident, space, comment, comma, colon};
 
 /// Where selectors of a list cannot be read: at the first token of each, and where nothing stands between commas at what follows.
 pub fn selector_faults()

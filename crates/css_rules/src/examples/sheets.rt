@@ -12,7 +12,7 @@ ghost use Rattle.css_rules.specs.Runs.{bare_runs};
 ghost use Rattle.css_rules.specs.Sheets.{sheet_of, sheet_refusals};
 ghost use Rattle.css_rules.specs.SheetTexts.{sheet_text};
 ghost use Rattle.css_rules.specs.Samples.{number, at_keyword, url, string, dot, semicolon, braces, type_at, unmarked, marked, bare, run};
-ghost use Rattle.selector_tree.specs.Samples.{source, laid, ident, delim, space, comment, comma, colon, brackets, call, class, typed, one, only};
+ghost use Rattle.selector_types.specs.Samples.{source, laid, ident, delim, space, comment, comma, colon, brackets, call, class, typed, one, only};
 
 /// What a declaration says: its name in lower case, but for a custom property, and its value without white space at both ends.
 pub fn declarations_are_spelled()

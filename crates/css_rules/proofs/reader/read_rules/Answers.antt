@@ -29,6 +29,6 @@ loop-from-preserved c =
           first
           (ap (λ mark. rule_of (record { front = slice_range text from end; mark = mark })) (sym c.mark_at.ensures)
           ∙ c.in_ok-rule.ensures.value (sooner_of-none_right c.loop-from.refusal c.in_ok-rule.rule.refusal both))
-          c.in_ok-push_some.ensures
+          c.in_ok-push_some.ensures.ok
           (c.loop-from.invariant.2 (sooner_of-none_left c.loop-from.refusal c.in_ok-rule.rule.refusal both)),
     )

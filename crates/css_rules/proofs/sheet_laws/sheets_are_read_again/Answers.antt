@@ -1,11 +1,11 @@
 use Rattle.css_rules.proofs.ValueFacts.{ValueLaws}
 use Rattle.css_rules.proofs.SheetRound.{NameLaws}
-use Rattle.css_rules.proofs.RulesAgain.{SelectorLaws, sheet-again}
+use Rattle.css_rules.proofs.RulesAgain.{SelectorLaws, rules-read, sheet-again}
 use Rattle.css_rules.proofs.SheetSpelled.{formed-sheet}
 use Rattle.css_rules.proofs.CleanTexts.{ListTexts}
 use Rattle.css_rules.proofs.TreeTexts.{clean-strings, list-clean, list-unmarked}
 use Rattle.std.proofs.Common.{false, refl}
-use Rattle.selector_tree.specs.Spelling.{list_spelling}
+use Rattle.selector_types.specs.Spelling.{list_spelling}
 use Rattle.css_rules.proofs.SheetReads.{ReadLaws, text-reads}
 use Rattle.css_rules.proofs.sheet_laws.sheets_are_read_again.Goals as goal
 
@@ -36,5 +36,6 @@ returns c =
     record {
       reads = text-reads reading values;
       formed = formed-sheet values lists.formed;
+      rules = rules-read values names selectors;
       same = sheet-again values names selectors;
     }
