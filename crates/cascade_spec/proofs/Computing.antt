@@ -5,8 +5,8 @@ use Rattle.css_tokens.specs.declared.component.Component.TheOpen.{Block}
 use Rattle.css_tokens.specs.declared.component.Component.TheVariants.{outs-Single, outs-Block}
 use Rattle.css_tokens.specs.Piece.{Piece}
 use Rattle.css_tokens.specs.Trees.{closing, pieces_all, pieces_of, pieces_of-Single, pieces_of-Block}
-use Rattle.selector_tree.specs.declared.selector.Selector.{Selector}
-use Rattle.selector_tree.specs.Erased.{erased}
+use Rattle.selector_types.specs.declared.selector.Selector.{Selector}
+use Rattle.selector_types.specs.Erased.{erased}
 use Rattle.selector_tree.specs.Signs.{mark_of, mark_of-Single, mark_of-Block, block_mark}
 use Rattle.css_rules.specs.declared.sheet.Item.{Item}
 use Rattle.css_tokens.specs.ValueAgain.{head_kind-Single, parted_within-Single, shortened-Single, takes_last-Single}
@@ -14,16 +14,16 @@ use Rattle.css_rules.specs.Erased.{erased-Single}
 use Rattle.css_rules.specs.Contexts.{Context, under_list}
 use Rattle.css_rules.specs.Statements.{Statement, says, says-Plain, says-Style}
 use Rattle.std.specs.Prelude.{Option}
-use Rattle.selector_tree.specs.declared.selector.Combinator.{Combinator}
-use Rattle.selector_tree.specs.declared.selector.TypeName.{TypeName}
-use Rattle.selector_tree.specs.declared.selector.Link.TheVariants.{outs-Linked}
-use Rattle.selector_tree.specs.SelectorFold.{Steps, made_part, made_link, folded_compound, folded_selector, folded-Class, folded-Id, folded-Attribute, folded-Pseudo, folded-Not, folded-Is, folded-Where, folded-Parent, folded-Local, folded-Global, folded-Foreign, folded-Compound, folded-Selector}
+use Rattle.selector_types.specs.declared.selector.Combinator.{Combinator}
+use Rattle.selector_types.specs.declared.selector.TypeName.{TypeName}
+use Rattle.selector_types.specs.declared.selector.Link.TheVariants.{outs-Linked}
+use Rattle.selector_types.specs.SelectorFold.{Steps, made_part, made_link, folded_compound, folded_selector, folded-Class, folded-Id, folded-Attribute, folded-Pseudo, folded-Not, folded-Is, folded-Where, folded-Parent, folded-Local, folded-Global, folded-Foreign, folded-Compound, folded-Selector}
 use Rattle.css_tokens.specs.declared.component.Component as component
 use Rattle.css_rules.specs.declared.sheet.Item as item
-use Rattle.selector_tree.specs.declared.selector.Tail as tail
-use Rattle.selector_tree.specs.declared.selector.Compound as compound
-use Rattle.selector_tree.specs.declared.selector.Link as link
-use Rattle.selector_tree.specs.declared.selector.Part as part
+use Rattle.selector_types.specs.declared.selector.Tail as tail
+use Rattle.selector_types.specs.declared.selector.Compound as compound
+use Rattle.selector_types.specs.declared.selector.Link as link
+use Rattle.selector_types.specs.declared.selector.Part as part
 
 -- a block, and its tokens
 pub block-out : (opening : Piece) (items : List Component) (close : ℕ)

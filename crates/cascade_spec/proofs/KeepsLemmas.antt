@@ -6,7 +6,8 @@ use Rattle.css_tokens.specs.declared.component.Component.{Component}
 use Rattle.css_tokens.specs.Piece.{Word}
 use Rattle.css_tokens.specs.Tokens.{Reads}
 use Rattle.css_tokens.specs.Trees.{words_all, all_formed}
-use Rattle.selector_tree.specs.ReadableSelectors.{is_spelled}
+use Rattle.selector_types.specs.ReadableSelectors.{is_spelled}
+use Rattle.css_rules.specs.BareRules.{bare_rules, rule_of_run}
 use Rattle.css_rules.specs.Runs.{Run, BareRun, bare_run, bare_runs, runs_of}
 use Rattle.css_rules.specs.Printable.{ArePrintable, is_whole}
 use Rattle.css_rules.specs.Sheets.{sheet_of}
@@ -31,6 +32,8 @@ pub record SheetLaws : Type 0 where
   pub reads : (runs : List Run) → ArePrintable runs → AllStand runs → Reads (runs_text runs) (words_all (sheet_again runs))
   pub formed : (runs : List Run) → ArePrintable runs → IsTrue (all_formed (sheet_again runs))
   pub same : (runs : List Run) → ArePrintable runs → option_map bare_runs (sheet_of (sheet_again runs)) ≡ Some (map bare_run runs)
+  pub ruled : (runs : List Run) → ArePrintable runs → option_map bare_rules (sheet_of (sheet_again runs)) ≡ Some (map rule_of_run runs)
+  pub rules : (a b : List Component) → words_all a ≡ words_all b → IsTrue (all_formed a) → IsTrue (all_formed b) → option_map bare_rules (sheet_of a) ≡ option_map bare_rules (sheet_of b)
   pub places : (a b : List Component) → words_all a ≡ words_all b → IsTrue (all_formed a) → IsTrue (all_formed b) → option_map bare_runs (sheet_of a) ≡ option_map bare_runs (sheet_of b)
 
 -- the sheet of which this was made
@@ -46,16 +49,25 @@ module _ (laws : SheetLaws) where
       let same = sym (ap (option_map bare_runs) p.2) ∙ laws.places p.0 q.0 words p.1.formed q.1.formed ∙ ap (option_map bare_runs) q.2 in
       cc same
 
+  -- the runs of the sheet of a text
+  record IsOfText (runs : List Run) : Type 0 where
+    printable : ArePrintable runs
+    stands : AllStand runs
+
+  of_text : (source : List ℕ) (sheet : Sheet) → HasSheet source sheet → IsTrue (list_all is_whole (runs_of sheet)) → IsOfText (runs_of sheet)
+  of_text source sheet has whole = record {
+    printable = laws.printable has.0 sheet has.2 has.1.formed (words-spelled laws.names source (words_all has.0) has.1.reads) whole;
+    stands = laws.standing source has.0 sheet has.1.reads has.1.formed has.2;
+  }
+
   -- what is written from a sheet reads as the sheet of its text
   pub reads-again : (source : List ℕ) (sheet : Sheet) → HasSheet source sheet → IsTrue (list_all is_whole (runs_of sheet)) → IsReadAgain source (sheet_text sheet)
   reads-again source sheet has whole =
-      let cs = has.0 in
       let runs = runs_of sheet in
-      let printable : ArePrintable runs = laws.printable cs sheet has.2 has.1.formed (words-spelled laws.names source (words_all cs) has.1.reads) whole in
-      let stands : AllStand runs = laws.standing source cs sheet has.1.reads has.1.formed has.2 in
-      let again = sheet_behind (sheet_of (sheet_again runs)) (map bare_run runs) (laws.same runs printable) in
-      let written : HasSheet (runs_text runs) again.0 = (sheet_again runs, record { reads = laws.reads runs printable stands; formed = laws.formed runs printable }, again.1) in
-      subst (IsReadAgain source) (sym (laws.flat cs sheet has.2))
+      let from = of_text source sheet has whole in
+      let again = sheet_behind (sheet_of (sheet_again runs)) (map bare_run runs) (laws.same runs from.printable) in
+      let written : HasSheet (runs_text runs) again.0 = (sheet_again runs, record { reads = laws.reads runs from.printable from.stands; formed = laws.formed runs from.printable }, again.1) in
+      subst (IsReadAgain source) (sym (laws.flat has.0 sheet has.2))
       (record {
         readable = (again.0, written);
         same = λ old new is_old is_new.
@@ -63,6 +75,16 @@ module _ (laws : SheetLaws) where
             ∙ ap (flat_map run_says) (one-sheet (runs_text runs) new again.0 is_new written ∙ again.2 ∙ one-sheet source sheet old has is_old)
             ∙ sym (laws.said old);
       })
+
+  -- each rule of a sheet that it reads as says one run of the sheet
+  pub rules-read : (source : List ℕ) (sheet new : Sheet) → HasSheet source sheet → IsTrue (list_all is_whole (runs_of sheet)) → HasSheet (sheet_text sheet) new → bare_rules new ≡ map rule_of_run (runs_of sheet)
+  rules-read source sheet new has whole is_new =
+      let runs = runs_of sheet in
+      let from = of_text source sheet has whole in
+      let reads : Reads (runs_text runs) (words_all is_new.0) = subst (λ text. Reads text (words_all is_new.0)) (laws.flat has.0 sheet has.2) is_new.1.reads in
+      let words = laws.one (runs_text runs) (words_all is_new.0) (words_all (sheet_again runs)) reads (laws.reads runs from.printable from.stands) in
+      let same = sym (ap (option_map bare_rules) is_new.2) ∙ laws.rules is_new.0 (sheet_again runs) words is_new.1.formed (laws.formed runs from.printable) ∙ laws.ruled runs from.printable in
+      cc same
 
 -- and so have equal winners
 pub again-keeps : (source written : List ℕ) → IsReadAgain source written → KeepsWinners source written

@@ -4,6 +4,5 @@ pub mod KeepsLemmas
 pub mod WinnerLemmas
 pub mod RelationLemmas
 pub mod LayerLemmas
-pub mod HashLemmas
 pub mod SpelledWords
 pub mod PlaceLemmas

@@ -1,15 +1,15 @@
 -- What a list is round a rule does not depend on places.
 use Rattle.std.proofs.Common.{List, [], ◌∷◌, ◌++◌, map, Bool, ◌&&◌, not, Option, Some, None, if◌then◌else◌, ◌≡◌, refl, sym, ◌∙◌, ap}
 use Rattle.std.specs.Prelude.{is_some}
-use Rattle.selector_tree.specs.declared.selector.Combinator.{Combinator}
-use Rattle.selector_tree.specs.declared.selector.Combinator.TheVariants.{Descendant}
-use Rattle.selector_tree.specs.declared.selector.Link as link
-use Rattle.selector_tree.specs.declared.selector.Selector.{Selector}
-use Rattle.selector_tree.specs.BareFold.{BareSteps, placed, bare_compound, bare_selector}
-use Rattle.selector_tree.specs.Erased.{erasing, erased, erased_compound}
-use Rattle.selector_tree.specs.SameErased.{same-erased, same-compound, same-links, linked, links_in, erased_links}
-use Rattle.selector_tree.specs.SelectorFold.{folded-Selector}
-use Rattle.selector_tree.specs.Specificities.{counting}
+use Rattle.selector_types.specs.declared.selector.Combinator.{Combinator}
+use Rattle.selector_types.specs.declared.selector.Combinator.TheVariants.{Descendant}
+use Rattle.selector_types.specs.declared.selector.Link as link
+use Rattle.selector_types.specs.declared.selector.Selector.{Selector}
+use Rattle.selector_types.specs.BareFold.{BareSteps, placed, bare_compound, bare_selector}
+use Rattle.selector_types.specs.Erased.{erasing, erased, erased_compound}
+use Rattle.selector_types.specs.SameErased.{same-erased, same-compound, same-links, linked, links_in, erased_links}
+use Rattle.selector_types.specs.SelectorFold.{folded-Selector}
+use Rattle.selector_types.specs.Specificities.{counting}
 use Rattle.cascade_spec.specs.Worlds.{World}
 use Rattle.cascade_spec.specs.Matching.{fitting}
 use Rattle.cascade_spec.specs.Implied.{having_parent, has_parent, parent_alone, led_by, implied}

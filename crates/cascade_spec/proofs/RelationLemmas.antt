@@ -4,7 +4,7 @@ use Rattle.std.specs.Option.{option_and_then, option_map_or}
 use Rattle.std.proofs.lemmas.Option.{slice_get_within}
 use Rattle.cascade_spec.specs.declared.document.Document.{Document}
 use Rattle.cascade_spec.specs.declared.document.Element.{Element}
-use Rattle.selector_tree.specs.declared.selector.Combinator.TheVariants.{Descendant, Child, Next, Later}
+use Rattle.selector_types.specs.declared.selector.Combinator.TheVariants.{Descendant, Child, Next, Later}
 use Rattle.cascade_spec.specs.Elements.{parent_of, same_number, of_ancestors, previous_among, of_siblings_among, is_related}
 use Rattle.cascade_spec.specs.Relations.{steps_from, IsReached, IsPrevious, previous_of, ParentsComeFirst, HoldsOfOne}
 

@@ -1,144 +1,42 @@
 -- The words of a text are pieces of it that can be written again.
-use Rattle.std.proofs.Common.{◌≡◌, ◌≤◌, ℕ, zero, suc, List, [], ◌∷◌, ◌++◌, Bool, true, false, ◌&&◌, ◌||◌, not, Option, Some, None, refl, sym, ◌∙◌, ap, ap₂, subst, arith, cond, codes, length, take, drop, inl, inr, nat_eq}
-use Rattle.std.specs.List.{list_all, list_any, position, position_or_len}
-use Rattle.std.specs.Option.{option_map}
-use Rattle.std.specs.Str.{IsCharBoundary, IsUtf8, is_utf8}
-use Rattle.std.specs.Str.Lossy.{utf8_valid_len, valid_len_up_to}
-use Rattle.std.proofs.lemmas.Bool.{and_parts, cases_Bool, eqb-true, false≢true}
-use Rattle.std.proofs.lemmas.Grind.{common_steps}
-use Rattle.std.proofs.lemmas.List.{take-append-drop}
-use Rattle.std.proofs.lemmas.List.Sums.{fails_before_first, list_all-from_AllPass}
-use Rattle.std.proofs.lemmas.Str.{IsUtf8-drop, IsUtf8-from_is_utf8, IsUtf8-nil, IsUtf8-take, IsCharBoundary-after_ascii, is_utf8-from_IsUtf8}
+use Rattle.std.proofs.Common.{◌≡◌, ℕ, List, [], ◌∷◌, Bool, true, false, ◌&&◌, ◌||◌, not, refl, ap₂}
+use Rattle.std.specs.List.{list_all, list_any}
+use Rattle.std.specs.Str.{IsUtf8, is_utf8}
+use Rattle.std.proofs.lemmas.Bool.{and_parts}
+use Rattle.std.proofs.lemmas.Str.{IsUtf8-from_is_utf8}
 use Rattle.css_tokens.specs.declared.kind.Kind.{Kind}
 use Rattle.css_tokens.specs.declared.kind.Kind.TheVariants as kinds
 use Rattle.css_tokens.specs.Names.{is_content, is_name, name_of_word}
 use Rattle.css_tokens.specs.Piece.{Word}
-use Rattle.css_tokens.specs.Tokens.{First, Reads, ReadsTo, after_mark, bad_place, first_front, is_control, or_else, spells, word}
-use Rattle.css_tokens.proofs.Boundaries.{first_boundary}
-use Rattle.selector_tree.specs.Names.{is_id}
-use Rattle.selector_tree.specs.ReadableSelectors.{is_clean, is_named, is_spelled}
-use Rattle.cascade_spec.proofs.HashLemmas.{hash-first}
+use Rattle.css_tokens.specs.Tokens.{Reads, ReadsTo, after_mark, is_control, spells}
+use Rattle.selector_types.specs.Names.{is_id}
+use Rattle.selector_types.specs.ReadableSelectors.{is_clean, is_named, is_spelled}
 
 -- what the token crate ensures of names
 pub record NameLaws : Type 0 where
   pub decoded : (t : List ℕ) → IsUtf8 t → spells kinds.Ident t ≡ true → is_name (name_of_word kinds.Ident t) ≡ true
-  pub hash_decoded : (t : List ℕ) → IsUtf8 t → spells kinds.Hash (codes "#" ++ t) ≡ true → is_name (name_of_word kinds.Hash (codes "#" ++ t)) ≡ true
+  pub hash_decoded : (t : List ℕ) → IsUtf8 t → spells kinds.Hash t ≡ true → is_name (name_of_word kinds.Hash t) ≡ true
   pub string_decoded : (t : List ℕ) → IsUtf8 t → spells kinds.String t ≡ true → is_content (name_of_word kinds.String t) ≡ true
-  pub first : (t : List ℕ) (w : Word) → First t w → spells w.kind w.text ≡ true
+  pub clean : (t : List ℕ) (ws : List Word) → Reads t ws → list_all (λ w. is_clean w.text) ws ≡ true
+  pub spelled : (t : List ℕ) (ws : List Word) (rest : List ℕ) → ReadsTo t ws rest → list_all (λ w. spells w.kind w.text) ws ≡ true
 
--- A text without a bad place is in UTF-8, and has no control character.
-
-take-all : (t : List ℕ) → take (length t) t ≡ t
-take-all [] = refl
-take-all (b ∷ t) = ap (λ r. b ∷ r) (take-all t)
-
-front-utf8 : (t : List ℕ) (m : ℕ) → IsUtf8 (take (valid_len_up_to t m) t)
-front-utf8 t zero = IsUtf8-nil
-front-utf8 t (suc m) = elim (cases_Bool (is_utf8 (take (suc m) t))) [
-  | inl e ↦ subst (λ (b : Bool). IsUtf8 (take (cond b (suc m) (valid_len_up_to t m)) t)) (sym e) (IsUtf8-from_is_utf8 (take (suc m) t) e)
-  | inr e ↦ subst (λ (b : Bool). IsUtf8 (take (cond b (suc m) (valid_len_up_to t m)) t)) (sym e) (front-utf8 t m)
-]
-
-valid-utf8 : (t : List ℕ) → utf8_valid_len t ≡ length t → IsUtf8 t
-unfolding utf8_valid_len
-valid-utf8 t e = subst IsUtf8 (ap (λ n. take n t) e ∙ take-all t) (front-utf8 t (length t))
-
-none-any : (t : List ℕ) → list_all (λ b. not (is_control b)) t ≡ true → list_any is_control t ≡ false
-none-any [] h = refl
-none-any (b ∷ t) h = let p = and_parts (not (is_control b)) (list_all (λ x. not (is_control x)) t) h in at (is_control b) p.0 (none-any t p.1)
-  where
-    at : (x : Bool) → not x ≡ true → list_any is_control t ≡ false → (x || list_any is_control t) ≡ false
-    at true e k = absurd (false≢true e)
-    at false e k = k
-
-no-control : (t : List ℕ) → position is_control t ≡ None → list_any is_control t ≡ false
-no-control t e =
-    let past : length t ≤ position_or_len is_control t = grind (arith, common_steps) in
-    none-any t (list_all-from_AllPass (λ b. not (is_control b)) t (λ i d l. ap not (fails_before_first is_control t i d (omega (arith, past, l)))))
-
-good-parts : (t : List ℕ) → bad_place t ≡ None → IsUtf8 t × (list_any is_control t ≡ false)
-good-parts t e = at (position is_control (take (utf8_valid_len t) t)) (nat_eq (utf8_valid_len t) (length t)) refl refl e
-  where
-    at : (o : Option ℕ) (b : Bool) → position is_control (take (utf8_valid_len t) t) ≡ o → nat_eq (utf8_valid_len t) (length t) ≡ b → or_else o (cond b None (Some (utf8_valid_len t))) ≡ None → IsUtf8 t × (list_any is_control t ≡ false)
-    at (Some i) b is eq h = absurd (cc h)
-    at None false is eq h = absurd (cc h)
-    at None true is eq h =
-        let same = eqb-true (utf8_valid_len t) (length t) eq in
-        (valid-utf8 t same, no-control t (subst (λ (u : List ℕ). position is_control u ≡ None) (ap (λ n. take n t) same ∙ take-all t) is))
-
--- So is each of its words.
-
-or-parts : (y z : Bool) → (y || z) ≡ false → (y ≡ false) × (z ≡ false)
-or-parts true z h = absurd (false≢true (sym h))
-or-parts false z h = (refl, h)
-
-any-parts : (a b : List ℕ) → list_any is_control (a ++ b) ≡ false → (list_any is_control a ≡ false) × (list_any is_control b ≡ false)
-any-parts [] b h = (refl, h)
-any-parts (x ∷ a) b h =
-    let p = or-parts (is_control x) (list_any is_control (a ++ b)) h in
-    let q = any-parts a b p.1 in
-    (ap₂ ◌||◌ p.0 q.0, q.1)
-
-record IsGood (t : List ℕ) : Type 0 where
-  whole : IsUtf8 t
-  clean : list_any is_control t ≡ false
-
-length-take : (n : ℕ) (t : List ℕ) → n ≤ length t → length (take n t) ≡ n
-length-take zero t h = refl
-length-take (suc n) [] h = absurd (omega (arith, h))
-length-take (suc n) (b ∷ t) h = ap suc (length-take n t (omega (arith, h)))
-
-split-good : (t : List ℕ) (n : ℕ) → IsGood t → IsCharBoundary t n → IsGood (take n t) × IsGood (drop n t)
-split-good t n g b =
-    let c = any-parts (take n t) (drop n t) (ap (list_any is_control) (take-append-drop n t) ∙ g.clean) in (
-      record { whole = IsUtf8-take t n g.whole b; clean = c.0 },
-      record { whole = IsUtf8-drop t n g.whole b; clean = c.1 },
-    )
-
-first-good : (t : List ℕ) (w : Word) → IsGood t → First t w → IsGood w.text × IsGood (drop (length w.text) t)
-first-good t w g first = at (first_front t) refl first
-  where
-    at : (o : Option (Kind × ℕ)) → first_front t ≡ o → option_map (word t) o ≡ Some w → IsGood w.text × IsGood (drop (length w.text) t)
-    at None is h = absurd (cc h)
-    at (Some front) is h =
-        let same : word t front ≡ w = cc h in
-        let edge = first_boundary t front g.whole (sym is) in
-        let parts = split-good t front.1 g edge in
-        let count : front.1 ≡ length w.text = sym (length-take front.1 t edge.0) ∙ ap (λ (v : Word). length v.text) same in (
-          subst (λ (v : Word). IsGood v.text) same parts.0,
-          subst (λ (n : ℕ). IsGood (drop n t)) count parts.1,
-        )
-
-id-named : NameLaws → (u : List ℕ) → IsUtf8 u → spells kinds.Hash u ≡ true → (not (is_id u) || is_name (name_of_word kinds.Hash u)) ≡ true
-id-named laws [] u h = refl
-id-named laws (b ∷ bs) u h =
-    subst (λ (x : ℕ). IsUtf8 (x ∷ bs) → spells kinds.Hash (x ∷ bs) ≡ true → (not (is_id (x ∷ bs)) || is_name (name_of_word kinds.Hash (x ∷ bs))) ≡ true)
-    (sym (hash-first b bs h)) (of_hash bs) u h
-  where
-    behind : (bs : List ℕ) → IsUtf8 (35 ∷ bs) → IsUtf8 bs
-    behind bs u = IsUtf8-drop (35 ∷ bs) 1 u (IsCharBoundary-after_ascii (35 ∷ bs) 0 u (omega arith) (omega arith))
-
-    or-true : (a b : Bool) → b ≡ true → (a || b) ≡ true
-    or-true true b e = refl
-    or-true false b e = e
-
-    of_hash : (bs : List ℕ) → IsUtf8 (35 ∷ bs) → spells kinds.Hash (35 ∷ bs) ≡ true → (not (is_id (35 ∷ bs)) || is_name (name_of_word kinds.Hash (35 ∷ bs))) ≡ true
-    of_hash bs u h = or-true (not (is_id (35 ∷ bs))) (is_name (name_of_word kinds.Hash (35 ∷ bs))) (laws.hash_decoded bs (behind bs u) h)
+or-true : (a b : Bool) → b ≡ true → (a || b) ≡ true
+or-true true b e = refl
+or-true false b e = e
 
 named-word : NameLaws → (k : Kind) (u : List ℕ) → IsUtf8 u → spells k u ≡ true → is_named k u ≡ true
 named-word laws kinds.Ident u whole h = laws.decoded u whole h
-named-word laws kinds.Hash u whole h = id-named laws u whole h
+named-word laws kinds.Hash u whole h = or-true (not (is_id u)) (is_name (name_of_word kinds.Hash u)) (laws.hash_decoded u whole h)
 named-word laws kinds.String u whole h = laws.string_decoded u whole h
 named-word laws _ u whole h = refl
 
-words-good : NameLaws → (t : List ℕ) (ws : List Word) (rest : List ℕ) → IsGood t → ReadsTo t ws rest → list_all is_spelled ws ≡ true
-words-good laws t [] rest g reads = refl
-words-good laws t (w ∷ ws) rest g reads =
-    let parts = first-good t w g reads.0 in
-    let piece : is_clean w.text ≡ true = ap₂ ◌&&◌ (is_utf8-from_IsUtf8 w.text parts.0.whole) (ap not parts.0.clean) in
-    ap₂ ◌&&◌ (ap₂ ◌&&◌ piece (named-word laws w.kind w.text parts.0.whole (laws.first t w reads.0))) (words-good laws (drop (length w.text) t) ws rest parts.1 reads.2)
+words-good : NameLaws → (ws : List Word) → list_all (λ w. is_clean w.text) ws ≡ true → list_all (λ w. spells w.kind w.text) ws ≡ true → list_all is_spelled ws ≡ true
+words-good laws [] clean spelled = refl
+words-good laws (w ∷ ws) clean spelled =
+    let c = and_parts (is_clean w.text) (list_all (λ x. is_clean x.text) ws) clean in
+    let s = and_parts (spells w.kind w.text) (list_all (λ x. spells x.kind x.text) ws) spelled in
+    let whole = IsUtf8-from_is_utf8 w.text (and_parts (is_utf8 w.text) (not (list_any is_control w.text)) c.0).0 in
+    ap₂ ◌&&◌ (ap₂ ◌&&◌ c.0 (named-word laws w.kind w.text whole s.0)) (words-good laws ws c.1 s.1)
 
 pub words-spelled : NameLaws → (t : List ℕ) (ws : List Word) → Reads t ws → list_all is_spelled ws ≡ true
-words-spelled laws t ws reads =
-    let p = good-parts (after_mark t) reads.0 in
-    words-good laws (after_mark t) ws [] (record { whole = p.0; clean = p.1 }) reads.1
+words-spelled laws t ws reads = words-good laws ws (laws.clean t ws reads) (laws.spelled (after_mark t) ws [] reads.1)

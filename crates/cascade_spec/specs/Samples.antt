@@ -7,10 +7,10 @@ use Rattle.css_rules.specs.declared.sheet.LayerName.TheVariants as LayerName
 use Rattle.css_rules.specs.Contexts.{LayerPath, outside}
 use Rattle.css_rules.specs.Runs.{BareDeclaration}
 use Rattle.css_rules.specs.Statements.{BarePassed, Statement, Declares, Mentions}
-use Rattle.selector_tree.specs.declared.selector.Compound.{Compound}
-use Rattle.selector_tree.specs.declared.selector.Selector.{Selector}
-use Rattle.selector_tree.specs.declared.triple.Specificity.{Specificity}
-use Rattle.selector_tree.specs.Samples.{every, one}
+use Rattle.selector_types.specs.declared.selector.Compound.{Compound}
+use Rattle.selector_types.specs.declared.selector.Selector.{Selector}
+use Rattle.selector_types.specs.declared.triple.Specificity.{Specificity}
+use Rattle.selector_types.specs.Samples.{every, one}
 use Rattle.cascade_spec.specs.Matching.{Subject, alone}
 use Rattle.cascade_spec.specs.Standings.{Standing, standing_of}
 use Rattle.cascade_spec.specs.Entries.{Entry}

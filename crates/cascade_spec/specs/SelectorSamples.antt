@@ -1,15 +1,15 @@
 -- A small document in a browser, and selectors over it, for the examples.
 use Rattle.std.specs.Prelude.{ℕ, List, [], ◌∷◌, Bool, Option, Some, None, codes, filter}
 use Prim.Native.String.{String}
-use Rattle.selector_tree.specs.declared.selector.Combinator.{Combinator}
-use Rattle.selector_tree.specs.declared.selector.Compound.{Compound}
-use Rattle.selector_tree.specs.declared.selector.Link as link
-use Rattle.selector_tree.specs.declared.selector.Part as part
-use Rattle.selector_tree.specs.declared.selector.Selector.{Selector}
-use Rattle.selector_tree.specs.declared.selector.Simple.{Simple}
-use Rattle.selector_tree.specs.declared.selector.Simple as simple
-use Rattle.selector_tree.specs.declared.triple.Specificity.{Specificity}
-use Rattle.selector_tree.specs.Samples.{one, typed, untyped}
+use Rattle.selector_types.specs.declared.selector.Combinator.{Combinator}
+use Rattle.selector_types.specs.declared.selector.Compound.{Compound}
+use Rattle.selector_types.specs.declared.selector.Link as link
+use Rattle.selector_types.specs.declared.selector.Part as part
+use Rattle.selector_types.specs.declared.selector.Selector.{Selector}
+use Rattle.selector_types.specs.declared.selector.Simple.{Simple}
+use Rattle.selector_types.specs.declared.selector.Simple as simple
+use Rattle.selector_types.specs.declared.triple.Specificity.{Specificity}
+use Rattle.selector_types.specs.Samples.{one, typed, untyped}
 use Rattle.cascade_spec.specs.declared.document.Element.{Element}
 use Rattle.cascade_spec.specs.declared.document.TailHolds.{TailHolds}
 use Rattle.cascade_spec.specs.declared.document.Document.{Document}

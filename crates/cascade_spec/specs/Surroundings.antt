@@ -1,9 +1,9 @@
 -- What the selector lists round a rule are for it: which subjects they match, how specific they are, and whether the browser drops the rule (Selectors 4, sections 3.9 (Invalid Selectors) and 17; CSS Nesting 1, section 3).
 use Rattle.std.specs.Prelude.{List, map, Bool, true, false, ◌||◌, Option, Some, None, if◌then◌else◌, fold}
 use Rattle.std.specs.List.{filter_map, list_any}
-use Rattle.selector_tree.specs.declared.selector.Selector.{Selector}
-use Rattle.selector_tree.specs.declared.triple.Specificity.{Specificity}
-use Rattle.selector_tree.specs.Specificities.{greatest, nothing, selector_specificity}
+use Rattle.selector_types.specs.declared.selector.Selector.{Selector}
+use Rattle.selector_types.specs.declared.triple.Specificity.{Specificity}
+use Rattle.selector_types.specs.Specificities.{greatest, nothing, selector_specificity}
 use Rattle.cascade_spec.specs.Worlds.{World}
 use Rattle.cascade_spec.specs.Matching.{Subject, Fit, whole_fit}
 use Rattle.cascade_spec.specs.Implied.{implied}

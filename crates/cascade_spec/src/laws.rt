@@ -4,13 +4,15 @@ ghost use Rattle.std.specs.Prelude.{◌≡◌, ◌++◌, [], ℕ, List, Bool, Is
 ghost use Rattle.std.specs.List.{AllByRecursion};
 ghost use Rattle.css_rules.specs.Contexts.{LayerPath, Context, outside, under_list};
 ghost use Rattle.css_rules.specs.Statements.{Statement, say_all, statements_of};
+ghost use Rattle.css_rules.specs.BareRules.{bare_rules, rule_of_run};
 ghost use Rattle.css_rules.specs.Printable.{all_whole};
+ghost use Rattle.css_rules.specs.Runs.{runs_of};
 ghost use Rattle.css_rules.specs.SheetTexts.{sheet_text};
-ghost use Rattle.selector_tree.specs.declared.selector.Combinator.TheVariants.{Descendant, Child, Next, Later};
+ghost use Rattle.selector_types.specs.declared.selector.Combinator.TheVariants.{Descendant, Child, Next, Later};
 ghost use Rattle.css_rules.specs.declared.sheet.Item.{Item};
 ghost use Rattle.css_rules.specs.declared.sheet.Sheet.{Sheet};
-ghost use Rattle.selector_tree.specs.Erased.{erased};
-ghost use Rattle.selector_tree.specs.declared.selector.Selector.{Selector};
+ghost use Rattle.selector_types.specs.Erased.{erased};
+ghost use Rattle.selector_types.specs.declared.selector.Selector.{Selector};
 ghost use Rattle.cascade_spec.specs.declared.document.Document.{Document};
 ghost use Rattle.cascade_spec.specs.Worlds.{World};
 ghost use Rattle.cascade_spec.specs.Elements.{parent_of, is_related};
@@ -25,15 +27,19 @@ ghost use Rattle.cascade_spec.specs.Readings.{HasSheet, IsReadAgain, KeepsWinner
 
 /// The text that the sheet of a text prints as reads as that sheet, and so keeps its winners, where all is kept of its
 /// selectors: a sheet with a function of which nothing is kept, or a flag of an attribute selector, has no text that says the
-/// same. A text reads as one sheet, places aside.
+/// same. Each rule of a sheet that the printed text reads as says one run of the printed sheet, so that none is empty. A text
+/// reads as one sheet, places aside.
 pub fn sheets_keep_winners()
     ensures again { (source : List ℕ) (sheet : Sheet) → HasSheet source sheet → IsTrue (all_whole sheet) → IsReadAgain source (sheet_text sheet) }
+    ensures rules { (source : List ℕ) (sheet new : Sheet) → HasSheet source sheet → IsTrue (all_whole sheet) → HasSheet (sheet_text sheet) new → bare_rules new ≡ map rule_of_run (runs_of sheet) }
     ensures kept { (source : List ℕ) (sheet : Sheet) → HasSheet source sheet → IsTrue (all_whole sheet) → KeepsWinners source (sheet_text sheet) }
     ensures one { (text : List ℕ) (a b : Sheet) → HasSheet text a → HasSheet text b → statements_of a ≡ statements_of b }
 {
     css_tokens::one_reading();
     css_tokens::names_spell();
     css_tokens::strings_spell();
+    css_tokens::words_are_clean();
+    css_tokens::values_again();
     css_rules::sheets_are_printable();
     css_rules::values_stand();
     css_rules::sheets_are_read_again();

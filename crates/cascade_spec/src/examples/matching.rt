@@ -1,10 +1,10 @@
 //! Which subjects selectors match, how specific they are there, and which rules the browser drops.
 
 ghost use Rattle.std.specs.Prelude.{◌≡◌, List, [], ◌∷◌, true, false, Some, None, codes};
-ghost use Rattle.selector_tree.specs.declared.selector.Combinator.TheVariants.{Descendant, Child, Next, Later};
-ghost use Rattle.selector_tree.specs.declared.selector.Simple as simple;
-ghost use Rattle.selector_tree.specs.declared.selector.Test.TheVariants.{Has, Equals, Word};
-ghost use Rattle.selector_tree.specs.Samples.{attribute, ended, every, one, triple, two, untyped};
+ghost use Rattle.selector_types.specs.declared.selector.Combinator.TheVariants.{Descendant, Child, Next, Later};
+ghost use Rattle.selector_types.specs.declared.selector.Simple as simple;
+ghost use Rattle.selector_types.specs.declared.selector.Test.TheVariants.{Has, Equals, Word};
+ghost use Rattle.selector_types.specs.Samples.{attribute, ended, every, one, triple, two, untyped};
 ghost use Rattle.cascade_spec.specs.Matching.{alone, pseudo_name};
 ghost use Rattle.cascade_spec.specs.Implied.{has_parent};
 ghost use Rattle.cascade_spec.specs.Surroundings.{top, within, member_of};
