@@ -7,8 +7,8 @@ use Rattle.std.proofs.lemmas.Grind.{flat_map-append}
 use Rattle.std.proofs.lemmas.List.{append-nil}
 use Rattle.std.proofs.lemmas.List.Sums.{fold-append}
 use Rattle.std.proofs.lemmas.List.Elements.{filter_map-append}
-use Rattle.selector_tree.specs.PartsFound.{parts-Class, parts-Id, parts-Attribute, parts-Pseudo, parts-Not, parts-Is, parts-Where, parts-Parent, parts-Local, parts-Global, parts-Foreign, parts-Compound, parts-Selector}
-use Rattle.selector_tree.specs.declared.selector.Part as part
+use Rattle.selector_types.specs.PartsFound.{parts-Class, parts-Id, parts-Attribute, parts-Pseudo, parts-Not, parts-Is, parts-Where, parts-Parent, parts-Local, parts-Global, parts-Foreign, parts-Compound, parts-Selector}
+use Rattle.selector_types.specs.declared.selector.Part as part
 use Rattle.cascade_spec.specs.declared.finding.Finding.{Finding}
 use Rattle.findings.specs.Constructs.{part_finding, part_findings, parts-Plain, parts-Style}
 use Rattle.findings.specs.Firsts.{first_from, first_finding, leads, sooner}

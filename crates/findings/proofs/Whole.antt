@@ -4,22 +4,22 @@ use Rattle.std.specs.List.{AllByRecursion, list_all, filter_map}
 use Rattle.std.proofs.Common.{refl, sym, subst, ◌∙◌, ap}
 use Rattle.std.proofs.lemmas.List.Elements.{filter_map-append}
 use Rattle.std.proofs.lemmas.List.Folds.{list_all-append}
-use Rattle.selector_tree.specs.declared.selector.Attribute as attribute
-use Rattle.selector_tree.specs.declared.selector.Simple.{Simple}
-use Rattle.selector_tree.specs.declared.selector.Simple as simple
-use Rattle.selector_tree.specs.declared.selector.Simple.TheVariants.{outs-Attribute, outs-Foreign}
-use Rattle.selector_tree.specs.declared.selector.Compound as compound
-use Rattle.selector_tree.specs.declared.selector.Link as link
-use Rattle.selector_tree.specs.declared.selector.Part as part
-use Rattle.selector_tree.specs.declared.selector.Selector as selector
-use Rattle.selector_tree.specs.BareFold.{placed}
-use Rattle.selector_tree.specs.Erased.{erased}
-use Rattle.selector_tree.specs.SameErased.{same-erased}
-use Rattle.selector_tree.specs.PartsFound.{parts-Not, parts-Is, parts-Where, parts-Local, parts-Global, parts-Compound, parts-Selector}
-use Rattle.selector_tree.specs.PartsWithin.{simple_parts, compound_parts, selector_parts, list_parts}
-use Rattle.selector_tree.specs.ReadableSelectors.{writable, is_writable_simple, is_writable_compound, is_writable_selector, is_writable_list}
-use Rattle.selector_tree.specs.SelectorFold.{made_part, made_link, simple_of, compound_of, folded-Class, folded-Id, folded-Attribute, folded-Pseudo, folded-Not, folded-Is, folded-Where, folded-Parent, folded-Local, folded-Global, folded-Foreign, folded-Compound, folded-Selector}
-use Rattle.selector_tree.specs.SelectorInduction.{Cases, by_lists}
+use Rattle.selector_types.specs.declared.selector.Attribute as attribute
+use Rattle.selector_types.specs.declared.selector.Simple.{Simple}
+use Rattle.selector_types.specs.declared.selector.Simple as simple
+use Rattle.selector_types.specs.declared.selector.Simple.TheVariants.{outs-Attribute, outs-Foreign}
+use Rattle.selector_types.specs.declared.selector.Compound as compound
+use Rattle.selector_types.specs.declared.selector.Link as link
+use Rattle.selector_types.specs.declared.selector.Part as part
+use Rattle.selector_types.specs.declared.selector.Selector as selector
+use Rattle.selector_types.specs.BareFold.{placed}
+use Rattle.selector_types.specs.Erased.{erased}
+use Rattle.selector_types.specs.SameErased.{same-erased}
+use Rattle.selector_types.specs.PartsFound.{parts-Not, parts-Is, parts-Where, parts-Local, parts-Global, parts-Compound, parts-Selector}
+use Rattle.selector_types.specs.PartsWithin.{simple_parts, compound_parts, selector_parts, list_parts}
+use Rattle.selector_types.specs.ReadableSelectors.{writable, is_writable_simple, is_writable_compound, is_writable_selector, is_writable_list}
+use Rattle.selector_types.specs.SelectorFold.{made_part, made_link, simple_of, compound_of, folded-Class, folded-Id, folded-Attribute, folded-Pseudo, folded-Not, folded-Is, folded-Where, folded-Parent, folded-Local, folded-Global, folded-Foreign, folded-Compound, folded-Selector}
+use Rattle.selector_types.specs.SelectorInduction.{Cases, by_lists}
 use Rattle.css_rules.specs.declared.sheet.Declaration.{Declaration}
 use Rattle.css_rules.specs.declared.sheet.Item.{Item}
 use Rattle.css_rules.specs.declared.sheet.Item as item
@@ -43,22 +43,22 @@ back-none : {X : Type 0} (xs ys : List X) → xs ++ ys ≡ [] → ys ≡ []
 back-none [] ys none = none
 back-none (x ∷ xs) ys none = absurd (cc none)
 
-both : (a b : Bool) → a ≡ true → b ≡ true → (a && b) ≡ true
+pub both : (a b : Bool) → a ≡ true → b ≡ true → (a && b) ≡ true
 both a b h k = ap (λ c. c && b) h ∙ k
 
 module _ (file : ℕ) where
   -- nothing stands in these parts
-  abbrev Bare : List part.Part → Type 0
+  abbrev pub Bare : List part.Part → Type 0
   Bare ps = part_findings file ps ≡ []
 
-  bare-front : (ps qs : List part.Part) → Bare (ps ++ qs) → Bare ps
+  pub bare-front : (ps qs : List part.Part) → Bare (ps ++ qs) → Bare ps
   bare-front ps qs none = front-none (part_findings file ps) (part_findings file qs) (sym (filter_map-append (part_finding file) ps qs) ∙ none)
 
-  bare-back : (ps qs : List part.Part) → Bare (ps ++ qs) → Bare qs
+  pub bare-back : (ps qs : List part.Part) → Bare (ps ++ qs) → Bare qs
   bare-back ps qs none = back-none (part_findings file ps) (part_findings file qs) (sym (filter_map-append (part_finding file) ps qs) ∙ none)
 
   -- a part in a list in which nothing stands has no code
-  uncoded : (x : Simple) (at : ℕ) (ps : List part.Part) → Bare (part.Placed x at ∷ ps) → code_of x ≡ None
+  pub uncoded : (x : Simple) (at : ℕ) (ps : List part.Part) → Bare (part.Placed x at ∷ ps) → code_of x ≡ None
   uncoded x at ps none = by (code_of x) refl
     where
       by : (o : Option Code) → code_of x ≡ o → o ≡ None
@@ -100,7 +100,7 @@ module _ (file : ℕ) where
       (each.0 (bare-front (compound_parts (compound_of l)) rest none))
       (links ls each.1 (bare-back (compound_parts (compound_of l)) rest none))
 
-  unflagged : (a : attribute.Attribute) → code_of (simple.Attribute a) ≡ None → not a.flag ≡ true
+  pub unflagged : (a : attribute.Attribute) → code_of (simple.Attribute a) ≡ None → not a.flag ≡ true
   unflagged a none = by a.flag refl
     where
       by : (b : Bool) → a.flag ≡ b → not b ≡ true

@@ -5,13 +5,13 @@ use Rattle.std.proofs.Common.{◌∙◌, ap}
 use Rattle.std.proofs.lemmas.List.Folds.{flat_map-map}
 use Rattle.std.specs.List.{filter_map}
 use Rattle.std.specs.Option.{option_map}
-use Rattle.selector_tree.specs.declared.selector.Simple.{Simple}
-use Rattle.selector_tree.specs.declared.selector.Simple as simple
-use Rattle.selector_tree.specs.declared.selector.Part as part
-use Rattle.selector_tree.specs.declared.selector.Selector as selector
-use Rattle.selector_tree.specs.declared.selector.Link.TheOpen.{Class, Id, Attribute, Pseudo, Not, Is, Where, Parent, Local, Global, Foreign}
-use Rattle.selector_tree.specs.LoneSimples.{Opened, is_one_scopable}
-use Rattle.selector_tree.specs.PartsWithin.{list_parts}
+use Rattle.selector_types.specs.declared.selector.Simple.{Simple}
+use Rattle.selector_types.specs.declared.selector.Simple as simple
+use Rattle.selector_types.specs.declared.selector.Part as part
+use Rattle.selector_types.specs.declared.selector.Selector as selector
+use Rattle.selector_types.specs.declared.selector.Link.TheOpen.{Class, Id, Attribute, Pseudo, Not, Is, Where, Parent, Local, Global, Foreign}
+use Rattle.selector_types.specs.LoneSimples.{Opened, is_one_scopable}
+use Rattle.selector_types.specs.PartsWithin.{list_parts}
 use Rattle.css_rules.specs.declared.sheet.Declaration.{Declaration}
 use Rattle.css_rules.specs.declared.sheet.Item.{Item}
 use Rattle.css_rules.specs.declared.sheet.Item as item

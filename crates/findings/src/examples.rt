@@ -4,9 +4,9 @@ ghost use Rattle.std.specs.Prelude.{◌≡◌, [], ◌∷◌, None, Some};
 ghost use Rattle.cascade_spec.specs.declared.finding.Code.TheVariants.{X6, X7, X11, X22};
 ghost use Rattle.findings.specs.Constructs.{code_of, found_at, list_findings};
 ghost use Rattle.findings.specs.Firsts.{first_finding};
-ghost use Rattle.selector_tree.specs.Samples.{attribute, class, flagged, one, only, part_at, pseudo, typed, untyped};
-ghost use Rattle.selector_tree.specs.declared.selector.Simple as simple;
-ghost use Rattle.selector_tree.specs.declared.selector.Test.TheVariants.{Has};
+ghost use Rattle.selector_types.specs.Samples.{attribute, class, flagged, one, only, part_at, pseudo, typed, untyped};
+ghost use Rattle.selector_types.specs.declared.selector.Simple as simple;
+ghost use Rattle.selector_types.specs.declared.selector.Test.TheVariants.{Has};
 
 /// Which simple selectors cannot be expressed.
 pub fn codes_of_simple_selectors()

@@ -5,10 +5,12 @@ mod clean;
 pub mod examples;
 mod first;
 mod first_law;
+mod old_law;
 mod selector;
 mod sheet;
 mod whole_law;
 
 pub use clean::{Clean, check};
 pub use first_law::the_first_finding_is_named;
+pub use old_law::clean_selectors_are_old;
 pub use whole_law::clean_sheets_are_whole;

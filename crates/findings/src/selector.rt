@@ -2,8 +2,8 @@
 
 ghost use Rattle.findings.specs.Constructs.{code_of, found_at, list_findings, part_finding, part_findings};
 ghost use Rattle.findings.specs.Firsts.{first_from};
-ghost use Rattle.selector_tree.specs.PartsWithin.{compound_parts, list_parts, selector_parts, simple_parts};
-ghost use Rattle.selector_tree.specs.SelectorFold.{compound_of, simple_of};
+ghost use Rattle.selector_types.specs.PartsWithin.{compound_parts, list_parts, selector_parts, simple_parts};
+ghost use Rattle.selector_types.specs.SelectorFold.{compound_of, simple_of};
 ghost use Rattle.std.specs.Prelude.{◌≡◌, ◌∷◌, flat_map};
 
 use crate::first::sooner;
@@ -19,7 +19,7 @@ fn code_of(simple: &Simple) -> Option<Code>
         Simple::Where(_) => Some(Code::X6),
         Simple::Not(list) if !is_one_scopable(list.as_slice()) => Some(Code::X7),
         Simple::Local(_) | Simple::Global(_) | Simple::Foreign => Some(Code::X11),
-        Simple::Attribute(attribute) if attribute.flag => Some(Code::X22),
+        Simple::Attribute(attribute) if attribute.get().flag => Some(Code::X22),
         _ => None,
     }
 }
@@ -122,8 +122,8 @@ fn in_simple(simple: &Simple, file: u32, best: Option<Finding>) -> Option<Findin
         Simple::Not(list) => in_list(list.as_slice(), file, best),
         Simple::Is(list) => in_list(list.as_slice(), file, best),
         Simple::Where(list) => in_list(list.as_slice(), file, best),
-        Simple::Local(compound) => in_compound(compound, file, best),
-        Simple::Global(compound) => in_compound(compound, file, best),
+        Simple::Local(compound) => in_compound(compound.get(), file, best),
+        Simple::Global(compound) => in_compound(compound.get(), file, best),
         _ => best,
     }
 }

@@ -1,16 +1,16 @@
 -- How selectors and sheets that are written out compute.
 use Rattle.std.specs.Prelude.{ℕ, List, ◌++◌, flat_map, ◌≡◌, Option}
 use Rattle.css_rules.specs.declared.sheet.Item.TheVariants.{outs-Style, outs-Plain}
-use Rattle.selector_tree.specs.declared.selector.Combinator.{Combinator}
-use Rattle.selector_tree.specs.declared.selector.TypeName.{TypeName}
-use Rattle.selector_tree.specs.declared.selector.Tail as tail
-use Rattle.selector_tree.specs.declared.selector.Compound as compound
-use Rattle.selector_tree.specs.declared.selector.Link as link
-use Rattle.selector_tree.specs.declared.selector.Part as part
-use Rattle.selector_tree.specs.declared.selector.Simple.TheVariants.{outs-Class, outs-Id, outs-Attribute, outs-Pseudo, outs-Not, outs-Is, outs-Where, outs-Parent, outs-Local, outs-Global, outs-Foreign}
-use Rattle.selector_tree.specs.PartsFound.{parts-Class, parts-Id, parts-Attribute, parts-Pseudo, parts-Not, parts-Is, parts-Where, parts-Parent, parts-Local, parts-Global, parts-Foreign, parts-Compound, parts-Selector, within}
-use Rattle.selector_tree.specs.PartsWithin.{compound_parts, selector_parts}
-use Rattle.selector_tree.specs.SelectorFold.{compound_of}
+use Rattle.selector_types.specs.declared.selector.Combinator.{Combinator}
+use Rattle.selector_types.specs.declared.selector.TypeName.{TypeName}
+use Rattle.selector_types.specs.declared.selector.Tail as tail
+use Rattle.selector_types.specs.declared.selector.Compound as compound
+use Rattle.selector_types.specs.declared.selector.Link as link
+use Rattle.selector_types.specs.declared.selector.Part as part
+use Rattle.selector_types.specs.declared.selector.Simple.TheVariants.{outs-Class, outs-Id, outs-Attribute, outs-Pseudo, outs-Not, outs-Is, outs-Where, outs-Parent, outs-Local, outs-Global, outs-Foreign}
+use Rattle.selector_types.specs.PartsFound.{parts-Class, parts-Id, parts-Attribute, parts-Pseudo, parts-Not, parts-Is, parts-Where, parts-Parent, parts-Local, parts-Global, parts-Foreign, parts-Compound, parts-Selector, within}
+use Rattle.selector_types.specs.PartsWithin.{compound_parts, selector_parts}
+use Rattle.selector_types.specs.SelectorFold.{compound_of}
 
 pub made-compound : (kind : TypeName) (ps : List part.Part) (tail : Option tail.Tail) → compound_parts (record { kind = kind; parts = ps; tail = tail }) ≡ flat_map within ps
 made-compound kind ps tail = parts-Compound (record { kind = kind; parts = ps; tail = tail })

@@ -4,7 +4,7 @@ use Rattle.css_rules.specs.declared.sheet.Declaration.{Declaration}
 use Rattle.css_rules.specs.declared.sheet.Item as item
 use Rattle.css_rules.specs.declared.sheet.Sheet.{Sheet}
 use Rattle.css_rules.specs.declared.sheet.Style as style
-use Rattle.selector_tree.specs.declared.selector.Selector.{Selector}
+use Rattle.selector_types.specs.declared.selector.Selector.{Selector}
 
 -- a rule of these selectors with one run of declarations
 abbrev pub rule_of : List Selector → List Declaration → style.Style

@@ -2,13 +2,13 @@
 use Rattle.std.specs.Prelude.{List, [], ◌∷◌, Bool, true, false, not, ◌&&◌, is_none, codes}
 use Rattle.std.specs.List.{list_all, list_any}
 use Rattle.css_tokens.specs.Trees.{is_text}
-use Rattle.selector_tree.specs.LoneSimples.{Opened, is_one_simple}
-use Rattle.selector_tree.specs.PartsWithin.{selector_parts}
-use Rattle.selector_tree.specs.declared.selector.Link.TheOpen.{Class, Id, Attribute, Pseudo, Not, Is, Where, Parent, Local, Global, Foreign}
-use Rattle.selector_tree.specs.declared.selector.Part as part
-use Rattle.selector_tree.specs.declared.selector.Selector.{Selector}
-use Rattle.selector_tree.specs.declared.selector.Simple.{Simple}
-use Rattle.selector_tree.specs.declared.selector.Simple as simple
+use Rattle.selector_types.specs.LoneSimples.{Opened, is_one_simple}
+use Rattle.selector_types.specs.PartsWithin.{selector_parts}
+use Rattle.selector_types.specs.declared.selector.Link.TheOpen.{Class, Id, Attribute, Pseudo, Not, Is, Where, Parent, Local, Global, Foreign}
+use Rattle.selector_types.specs.declared.selector.Part as part
+use Rattle.selector_types.specs.declared.selector.Selector.{Selector}
+use Rattle.selector_types.specs.declared.selector.Simple.{Simple}
+use Rattle.selector_types.specs.declared.selector.Simple as simple
 use Rattle.css_rules.specs.declared.sheet.Declaration.{Declaration}
 use Rattle.css_rules.specs.declared.sheet.Item.{Item}
 use Rattle.css_rules.specs.declared.sheet.Item as item

@@ -2,9 +2,9 @@
 
 ghost use Rattle.std.specs.Prelude.{◌≡◌, [], ◌∷◌, false, true};
 ghost use Rattle.css_rules.specs.Samples.{unmarked};
-ghost use Rattle.selector_tree.specs.Samples.{attribute, class, flagged, one, only, part_at, pseudo, typed, untyped};
-ghost use Rattle.selector_tree.specs.declared.selector.Simple as simple;
-ghost use Rattle.selector_tree.specs.declared.selector.Test.TheVariants.{Has};
+ghost use Rattle.selector_types.specs.Samples.{attribute, class, flagged, one, only, part_at, pseudo, typed, untyped};
+ghost use Rattle.selector_types.specs.declared.selector.Simple as simple;
+ghost use Rattle.selector_types.specs.declared.selector.Test.TheVariants.{Has};
 ghost use Rattle.target_check.specs.Samples.{nested_in, rule_of, sheet_of_rule};
 ghost use Rattle.target_check.specs.Targets.{is_old_selector, is_old_simple, is_target};
 

@@ -2,10 +2,9 @@
 #![tactic(auto)]
 
 pub mod examples;
+mod places_law;
 mod selector;
 mod sheet;
 
+pub use places_law::places_are_not_looked_at;
 pub use sheet::is_target;
-
-#[cfg(test)]
-mod tests;

@@ -1,7 +1,7 @@
 ghost use Rattle.std.specs.List.{list_all};
 ghost use Rattle.std.specs.Prelude.{◌≡◌, ◌∷◌, flat_map};
-ghost use Rattle.selector_tree.specs.PartsWithin.{compound_parts, list_parts, selector_parts, simple_parts};
-ghost use Rattle.selector_tree.specs.SelectorFold.{compound_of, simple_of};
+ghost use Rattle.selector_types.specs.PartsWithin.{compound_parts, list_parts, selector_parts, simple_parts};
+ghost use Rattle.selector_types.specs.SelectorFold.{compound_of, simple_of};
 ghost use Rattle.target_check.specs.Targets.{is_old_part, is_old_selector, is_old_simple};
 
 use selector_tree::{Compound, Link, Part, Selector, Simple, is_one_simple};
@@ -13,7 +13,7 @@ fn is_old_simple(simple: &Simple) -> bool
 {
     match simple {
         Simple::Class(_) | Simple::Id(_) | Simple::Pseudo(_) => true,
-        Simple::Attribute(attribute) => !attribute.flag,
+        Simple::Attribute(attribute) => !attribute.get().flag,
         Simple::Not(list) => is_one_simple(list.as_slice()),
         _ => false,
     }
@@ -105,8 +105,8 @@ fn in_simple(simple: &Simple) -> bool
         Simple::Not(list) => in_list(list.as_slice()),
         Simple::Is(list) => in_list(list.as_slice()),
         Simple::Where(list) => in_list(list.as_slice()),
-        Simple::Local(compound) => in_compound(compound),
-        Simple::Global(compound) => in_compound(compound),
+        Simple::Local(compound) => in_compound(compound.get()),
+        Simple::Global(compound) => in_compound(compound.get()),
         _ => true,
     }
 }

@@ -1,9 +1,9 @@
 use Rattle.std.specs.Prelude.{flat_map}
 use Rattle.std.proofs.Common.{◌∷◌, sym, ◌∙◌, ap}
-use Rattle.selector_tree.specs.PartsFound.{parts-Selector}
-use Rattle.selector_tree.specs.PartsWithin.{compound_parts, selector_parts, simple_parts}
-use Rattle.selector_tree.specs.SelectorFold.{compound_of, simple_of}
-use Rattle.selector_tree.specs.declared.selector.Selector.{Selector}
+use Rattle.selector_types.specs.PartsFound.{parts-Selector}
+use Rattle.selector_types.specs.PartsWithin.{compound_parts, selector_parts, simple_parts}
+use Rattle.selector_types.specs.SelectorFold.{compound_of, simple_of}
+use Rattle.selector_types.specs.declared.selector.Selector.{Selector}
 use Rattle.findings.specs.Constructs.{part_findings}
 use Rattle.findings.specs.Firsts.{first_from}
 use Rattle.findings.proofs.Finding.{first-append, first-next}

@@ -1,7 +1,7 @@
 use Rattle.std.proofs.Common.{◌≡◌, take}
 use Rattle.std.specs.Prelude.{◌∷◌, flat_map}
-use Rattle.selector_tree.specs.PartsWithin.{compound_parts, selector_parts, simple_parts}
-use Rattle.selector_tree.specs.SelectorFold.{compound_of, simple_of}
+use Rattle.selector_types.specs.PartsWithin.{compound_parts, selector_parts, simple_parts}
+use Rattle.selector_types.specs.SelectorFold.{compound_of, simple_of}
 use Rattle.findings.specs.Constructs.{part_findings}
 use Rattle.findings.specs.Firsts.{first_from}
 use Rattle.findings.proofs.selector.+finds.Given as goal

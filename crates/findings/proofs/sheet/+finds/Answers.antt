@@ -1,5 +1,5 @@
 use Rattle.std.proofs.Common.{sym, ◌∙◌, ap}
-use Rattle.selector_tree.specs.PartsWithin.{list_parts}
+use Rattle.selector_types.specs.PartsWithin.{list_parts}
 use Rattle.css_rules.specs.declared.sheet.Style.{Style}
 use Rattle.findings.specs.Constructs.{item_parts, items_parts, part_findings, parts-Style}
 use Rattle.findings.specs.Firsts.{first_from}

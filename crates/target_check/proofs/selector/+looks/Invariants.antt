@@ -1,8 +1,8 @@
 use Rattle.std.proofs.Common.{◌≡◌, take}
 use Rattle.std.specs.List.{list_all}
 use Rattle.std.specs.Prelude.{◌∷◌, flat_map}
-use Rattle.selector_tree.specs.PartsWithin.{compound_parts, selector_parts, simple_parts}
-use Rattle.selector_tree.specs.SelectorFold.{compound_of, simple_of}
+use Rattle.selector_types.specs.PartsWithin.{compound_parts, selector_parts, simple_parts}
+use Rattle.selector_types.specs.SelectorFold.{compound_of, simple_of}
 use Rattle.target_check.specs.Targets.{is_old_part}
 use Rattle.target_check.proofs.selector.+looks.Given as goal
 
