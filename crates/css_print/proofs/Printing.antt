@@ -10,8 +10,8 @@ use Rattle.css_rules.specs.declared.sheet.Item.TheOpen.{Item-F}
 use Rattle.css_rules.specs.declared.sheet.Item.TheOpen as inner
 use Rattle.css_rules.specs.declared.sheet.Item.TheFolds.{fold_out-Item}
 use Rattle.css_rules.specs.declared.sheet.Style.{Style, fold-Style}
-use Rattle.selector_tree.specs.declared.selector.Selector.{Selector}
-use Rattle.selector_tree.specs.Spelling.{list_text}
+use Rattle.selector_types.specs.declared.selector.Selector.{Selector}
+use Rattle.selector_types.specs.Spelling.{list_text}
 use Rattle.css_rules.specs.SheetTexts.{ItemText, block_text, braced_text, declaration_text, ended_declarations, item_text, more_declarations, printed_item, printed_item-Plain, printed_item-Style, rule_text, style_text}
 use Rattle.css_print.specs.Private.Printed.{holds_bytes}
 

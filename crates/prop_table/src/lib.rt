@@ -5,6 +5,3 @@ pub mod examples;
 mod pseudo;
 
 pub use pseudo::is_old_pseudo;
-
-#[cfg(test)]
-mod tests;

@@ -1,7 +1,7 @@
 use Rattle.std.proofs.Common.{List, ◌≡◌, [], ◌∷◌, ◌++◌, Bool, map, ap, ◌∙◌, sym}
 use Rattle.std.specs.Prelude.{codes, flat_map}
 use Rattle.std.proofs.lemmas.List.{append-nil}
-use Rattle.selector_tree.specs.Spelling.{list_text}
+use Rattle.selector_types.specs.Spelling.{list_text}
 use Rattle.css_rules.specs.SheetTexts.{block_text, printed_item}
 use Rattle.css_rules.specs.declared.sheet.Item.{Item}
 use Rattle.css_rules.specs.declared.sheet.Style.{Style}
