@@ -21,7 +21,9 @@ use Rattle.cascade_spec.specs.declared.finding.Code.TheVariants.{Syntax, Depth, 
 use Rattle.cascade_spec.specs.declared.finding.Finding.{Finding}
 use Rattle.cascade_spec.specs.declared.finding.LimitKind.TheVariants.{L2}
 use Rattle.csslower.specs.Answers.{IsLong, IsFirst, IsFine, IsFirstOfSources, First, HasFirst}
-use Rattle.csslower.specs.Findings.{HasTokens, HasComponents, SpellsSheet, code_and_offset, IsAccepted, HasFinding}
+use Rattle.css_tokens.specs.Components.{HasComponents, HasTokens}
+use Rattle.sheet_reader.specs.Texts.{SpellsSheet}
+use Rattle.csslower.specs.Findings.{code_and_offset, IsAccepted, HasFinding}
 use Rattle.csslower.specs.Words.{entry_of, is_scoped}
 use Rattle.csslower.specs.declared.status.Status.{Status}
 use Rattle.csslower.specs.declared.status.Status.TheVariants.{Done, Refused, Usage, ReadFault, WriteFault, Memory, Limit}

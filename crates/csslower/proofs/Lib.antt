@@ -5,3 +5,5 @@ mod OneFinding
 mod FirstAnswers
 mod Alike
 mod Usages
+mod TargetSheets
+mod TextFaults

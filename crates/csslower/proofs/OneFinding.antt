@@ -16,7 +16,9 @@ use Rattle.findings.specs.Constructs.{sheet_findings}
 use Rattle.findings.specs.Firsts.{first_finding}
 use Rattle.cascade_spec.specs.declared.finding.Code.{Code}
 use Rattle.cascade_spec.specs.declared.finding.Code.TheVariants.{Syntax, Depth, Missing, Unbuilt, X6, X7, X11, X22}
-use Rattle.csslower.specs.Findings.{HasTokens, HasComponents, IsUnpaired, IsRefused, SpellsSheet, IsFound, code_and_offset, HasFinding, IsAccepted}
+use Rattle.css_tokens.specs.Components.{HasComponents, HasTokens}
+use Rattle.sheet_reader.specs.Texts.{SpellsSheet}
+use Rattle.csslower.specs.Findings.{IsUnpaired, IsRefused, IsFound, code_and_offset, HasFinding, IsAccepted}
 
 -- what the laws of tokens, brackets and components say
 pub record ReadingLaws : Type 0 where

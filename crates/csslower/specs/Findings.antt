@@ -4,29 +4,19 @@ use Rattle.std.specs.Prelude.{ℕ, ◌≡◌, ◌⊎◌, List, [], length, map, 
 use Rattle.std.specs.Option.{option_map}
 use Rattle.css_tokens.specs.declared.component.Component.{Component}
 use Rattle.css_tokens.specs.declared.pairing.ComponentFault.TheVariants as fault
-use Rattle.css_tokens.specs.Pairing.{IsPaired, IsBracketFault}
-use Rattle.css_tokens.specs.Piece.{Piece, word_of}
-use Rattle.css_tokens.specs.Tokens.{Reads, IsPlaced, StopsAt, mark_length}
-use Rattle.css_tokens.specs.Trees.{pieces_all, all_formed}
+use Rattle.css_tokens.specs.Components.{HasComponents, HasTokens}
+use Rattle.css_tokens.specs.Pairing.{IsBracketFault}
+use Rattle.css_tokens.specs.Piece.{Piece}
+use Rattle.css_tokens.specs.Tokens.{StopsAt}
 use Rattle.css_rules.specs.Refusals.{first_refusal, syntax, unbuilt}
-use Rattle.css_rules.specs.Sheets.{sheet_of, sheet_refusals}
+use Rattle.css_rules.specs.Sheets.{sheet_refusals}
 use Rattle.css_rules.specs.declared.sheet.Sheet.{Sheet}
+use Rattle.sheet_reader.specs.Texts.{SpellsSheet}
 use Rattle.findings.specs.Constructs.{sheet_findings}
 use Rattle.findings.specs.Firsts.{first_finding}
 use Rattle.cascade_spec.specs.declared.finding.Code.{Code}
 use Rattle.cascade_spec.specs.declared.finding.Finding.{Finding}
 use Rattle.cascade_spec.specs.declared.finding.Code.TheVariants.{Syntax, Depth, Missing, Unbuilt, X6, X7, X11, X22}
-
--- the tokens of the text, each in its place, behind a byte order mark (CSS Syntax 3, section 4)
-pub record HasTokens (bytes : List ℕ) (tokens : List Piece) : Type 0 where
-  pub read : Reads bytes (map word_of tokens)
-  pub placed : IsPlaced (mark_length bytes) tokens
-
--- the component values of the text, their brackets paired (CSS Syntax 3, section 5)
-pub record HasComponents (bytes : List ℕ) (components : List Component) : Type 0 where
-  pub tokens : HasTokens bytes (pieces_all components)
-  pub formed : IsTrue (all_formed components)
-  pub paired : IsPaired (pieces_all components)
 
 -- no token that is read begins there, or no text may hold what stands there
 abbrev pub HasStop : List ℕ → Code → ℕ → Type 0
@@ -61,10 +51,6 @@ IsRefused components X22 offset = ⊥
 -- the text has component values, and the sheet of them is refused at this place, for this cause
 abbrev pub HasRefusal : List ℕ → Code → ℕ → Type 0
 HasRefusal bytes code offset = (components : List Component) × HasComponents bytes components × IsRefused components code offset
-
--- the text has component values that spell this sheet
-abbrev pub SpellsSheet : List ℕ → Sheet → Type 0
-SpellsSheet bytes sheet = (components : List Component) × HasComponents bytes components × (sheet_of components ≡ Some sheet)
 
 -- the code of a finding, and its place in its file
 abbrev pub code_and_offset : Finding → Code × ℕ

@@ -2,6 +2,7 @@
 use Rattle.std.specs.Prelude.{◌≡◌, ◌⊎◌, List, [], ◌∷◌, ◌++◌, ℕ, Option, IfSome}
 use Rattle.css_outside.specs.Names.{Names, Told}
 use Rattle.cascade_spec.specs.Readings.{KeepsWinners}
+use Rattle.csslower.specs.TargetTexts.{IsTargetText}
 use Rattle.csslower.specs.Writing.{WroteAll, WroteFront, SameOutputs}
 use Rattle.csslower.specs.declared.status.Status.{Status}
 use Rattle.csslower.specs.declared.status.Status.TheVariants.{Done, Refused, Usage, ReadFault, WriteFault, Memory, Limit}
@@ -25,6 +26,16 @@ WinnersFit name entry sources before now (Usage kind) = Unit {0}
 WinnersFit name entry sources before now ReadFault = Unit {0}
 WinnersFit name entry sources before now Memory = Unit {0}
 WinnersFit name entry sources before now (Limit kind) = Unit {0}
+
+-- older browsers read the text that the output of this name got, whole or its front: it is that of a target sheet
+abbrev pub TargetFits : List ℕ → Option Names → Option Names → Status → Type 0
+TargetFits name before now Done = (text : List ℕ) × Told before now (WroteAll name text) × IsTargetText text
+TargetFits name before now WriteFault = (text : List ℕ) × Told before now (WroteFront name text) × IsTargetText text
+TargetFits name before now (Refused finding) = Unit {0}
+TargetFits name before now (Usage kind) = Unit {0}
+TargetFits name before now ReadFault = Unit {0}
+TargetFits name before now Memory = Unit {0}
+TargetFits name before now (Limit kind) = Unit {0}
 
 -- the names made ready: this one where the text is put to it, and no other
 abbrev pub ReadyFits : List ℕ → List (List ℕ) → List (List ℕ) → Status → Type 0

@@ -3,6 +3,7 @@ pub mod Writing
 pub mod Lines
 pub mod Findings
 pub mod Answers
+pub mod TargetTexts
 pub mod Leaving
 pub mod Saying
 pub mod Private

@@ -4,7 +4,7 @@ ghost use Rattle.css_outside.specs.Names.{Names, Told};
 ghost use Rattle.csslower.specs.Answers.{LimitFits, RefusalFits, WritingFits, IsFirstOfSources};
 ghost use Rattle.csslower.specs.Private.Loading.{alike};
 ghost use Rattle.csslower.specs.Private.Stages.{IsOfText, IsOfWriting};
-ghost use Rattle.csslower.specs.Leaving.{Leaves, WinnersFit, ReadyFits};
+ghost use Rattle.csslower.specs.Leaving.{Leaves, TargetFits, WinnersFit, ReadyFits};
 ghost use Rattle.csslower.specs.Private.Putting.{Writes};
 ghost use Rattle.css_outside.specs.Putting.{IsReady};
 ghost use Rattle.csslower.specs.Lines.{memory_line};
@@ -27,6 +27,7 @@ pub(crate) fn judge<O: Outbox>(alloc: Global, path: &str, source: &[u8], out: &m
     requires { length source.now ≤ 4194304 }
     ensures text { IsOfText result }
     ensures winners { WinnersFit standard path.now (alike source.now) (O.held out.old) (O.held out.new) result }
+    ensures target { TargetFits standard (O.held out.old) (O.held out.new) result }
     ensures limit { LimitFits path.now (alike source.now) result }
     ensures refused { RefusalFits path.now (alike source.now) result }
     ensures accepted { WritingFits path.now (alike source.now) result }

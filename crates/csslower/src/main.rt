@@ -15,6 +15,7 @@ mod refuse;
 mod run;
 mod say;
 mod status;
+mod target_law;
 #[cfg(test)]
 mod tests;
 mod text_fault;

@@ -1,84 +1,37 @@
-ghost use Rattle.std.specs.Prelude.{◌≡◌, ◌≤◌, [], Some, length, IfOk, IfErr};
-ghost use Rattle.css_rules.specs.Sheets.{sheet_of, sheet_refusals};
-ghost use Rattle.csslower.specs.Findings.{HasTokens, HasComponents};
-ghost use Rattle.findings.specs.Constructs.{sheet_findings};
+ghost use Rattle.std.specs.Prelude.{◌≡◌, ◌≤◌, [], length, IfOk, IfErr};
 ghost use Rattle.csslower.specs.Private.TextFaults.{IsTextFault};
+ghost use Rattle.findings.specs.Constructs.{sheet_findings};
+ghost use Rattle.sheet_reader.specs.Texts.{SpellsSheet};
 
 use crate::text_fault::TextFault;
 use cascade_spec::Code;
-use css_rules::{RuleFault, Sheet, read_sheet};
-use css_tokens::{Component, ComponentFault, List, Token, TokenFault, components, tokens};
+use css_rules::Sheet;
 use findings::{Clean, check};
+use sheet_reader::{SheetFault, read_text};
 use std::alloc::Global;
 
-/// The tokens of a file's text.
+/// The sheet of a file's text.
 #[tactic(auto, unfolding(crate::specs::Findings::HasFinding))]
-fn text_tokens<'a>(alloc: Global, text: &'a [u8]) -> Result<List<Token<'a>>, TextFault>
+pub(crate) fn text_sheet<'a>(alloc: Global, text: &'a [u8]) -> Result<Sheet<'a>, TextFault>
     requires short { length text.now ≤ 4194304 }
-    ensures read { IfOk result (λ ts. HasTokens text.now ts) }
+    ensures spelled { IfOk result (λ sheet. SpellsSheet text.now sheet) }
     ensures refused { IfErr result (λ fault. IsTextFault text.now fault) }
 {
-    css_tokens::one_reading();
-    match tokens(alloc, text) {
-        Ok(tokens) => Ok(tokens),
-        Err(TokenFault::Syntax(offset)) => Err(TextFault::Finding {
+    match read_text(alloc, text) {
+        Ok(sheet) => Ok(sheet),
+        Err(SheetFault::Syntax(offset)) => Err(TextFault::Finding {
             code: Code::Syntax,
             offset,
         }),
-        Err(TokenFault::Memory) => Err(TextFault::Memory),
-    }
-}
-
-/// The component values of a file's text.
-#[tactic(auto, unfolding(crate::specs::Findings::HasFinding))]
-pub(crate) fn text_components<'a>(
-    alloc: Global,
-    text: &'a [u8],
-) -> Result<List<Component<'a>>, TextFault>
-    requires short { length text.now ≤ 4194304 }
-    ensures read { IfOk result (λ cs. HasComponents text.now cs) }
-    ensures refused { IfErr result (λ fault. IsTextFault text.now fault) }
-{
-    let tokens = text_tokens(alloc, text)?;
-    css_tokens::places_rise_in_a_text();
-    match components(alloc, tokens.as_slice(), text.len() as u32) {
-        Ok(components) => Ok(components),
-        Err(ComponentFault::Syntax(offset)) => Err(TextFault::Finding {
-            code: Code::Syntax,
-            offset,
-        }),
-        Err(ComponentFault::Depth(offset)) => Err(TextFault::Finding {
+        Err(SheetFault::Depth(offset)) => Err(TextFault::Finding {
             code: Code::Depth,
             offset,
         }),
-        Err(ComponentFault::Memory) => Err(TextFault::Memory),
-    }
-}
-
-/// The sheet of a file's text, whose components are given.
-#[tactic(auto, unfolding(crate::specs::Findings::HasFinding))]
-pub(crate) fn text_sheet<'a>(
-    alloc: Global,
-    text: &[u8],
-    components: &[Component<'a>],
-) -> Result<Sheet<'a>, TextFault>
-    requires short { length text.now ≤ 4194304 }
-    requires read { HasComponents text.now components.now }
-    ensures found { IfOk result (λ sheet. sheet_of components.now ≡ Some sheet) }
-    ensures faultless { IfOk result (λ _. sheet_refusals components.now ≡ []) }
-    ensures refused { IfErr result (λ fault. IsTextFault text.now fault) }
-{
-    match read_sheet(alloc, components, text.len() as u32) {
-        Ok(sheet) => Ok(sheet),
-        Err(RuleFault::Syntax(offset)) => Err(TextFault::Finding {
-            code: Code::Syntax,
-            offset,
-        }),
-        Err(RuleFault::Unbuilt(offset)) => Err(TextFault::Finding {
+        Err(SheetFault::Unbuilt(offset)) => Err(TextFault::Finding {
             code: Code::Unbuilt,
             offset,
         }),
-        Err(RuleFault::Memory) => Err(TextFault::Memory),
+        Err(SheetFault::Memory) => Err(TextFault::Memory),
     }
 }
 
@@ -86,11 +39,9 @@ pub(crate) fn text_sheet<'a>(
 #[tactic(auto, unfolding(crate::specs::Findings::HasFinding))]
 pub(crate) fn text_clean<'s, 'a>(
     text: &[u8],
-    components: &[Component<'a>],
     sheet: &'s Sheet<'a>,
 ) -> Result<Clean<'s, 'a>, TextFault>
-    requires read { HasComponents text.now components.now }
-    requires found { sheet_of components.now ≡ Some sheet.now }
+    requires spelled { SpellsSheet text.now sheet.now }
     ensures clean { IfOk result (λ clean. clean ≡ sheet.now) }
     ensures nothing { IfOk result (λ _. sheet_findings 0 sheet.now ≡ []) }
     ensures refused { IfErr result (λ fault. IsTextFault text.now fault) }

@@ -3,7 +3,7 @@ ghost use Rattle.css_outside.specs.Counts.{Rose};
 ghost use Rattle.css_outside.specs.Names.{Names, Told};
 ghost use Rattle.csslower.specs.Answers.{UsageFits, LimitFits, RefusalFits, WritingFits, IsFirstOfSources, First, HasFirst};
 ghost use Rattle.csslower.specs.Private.Stages.{IsOfCommand};
-ghost use Rattle.csslower.specs.Leaving.{Leaves, WinnersFit, ReadyFits, AsksFor};
+ghost use Rattle.csslower.specs.Leaving.{Leaves, TargetFits, WinnersFit, ReadyFits, AsksFor};
 ghost use Rattle.csslower.specs.Saying.{Said};
 ghost use Rattle.csslower.specs.Words.{entry_path, sources_of, stylesheet_name};
 ghost use Rattle.csslower.specs.Writing.{standard};
@@ -31,6 +31,7 @@ pub fn run<F: Files, O: Outbox, G: Gate + Sync>(
 ) -> Status
     ensures usage { UsageFits (map (λ word. word.now) words.now) result }
     ensures winners { let texts = map (λ word. word.now) words.now in IfSome (sources_of texts (F.told files.old)) (λ sources. WinnersFit (stylesheet_name texts) (entry_path texts) sources (O.held out.old) (O.held out.new) result) }
+    ensures target { TargetFits (stylesheet_name (map (λ word. word.now) words.now)) (O.held out.old) (O.held out.new) result }
     ensures limit { let texts = map (λ word. word.now) words.now in IfSome (sources_of texts (F.told files.old)) (λ sources. LimitFits (entry_path texts) sources result) }
     ensures refused { let texts = map (λ word. word.now) words.now in IfSome (sources_of texts (F.told files.old)) (λ sources. RefusalFits (entry_path texts) sources result) }
     ensures accepted { let texts = map (λ word. word.now) words.now in IfSome (sources_of texts (F.told files.old)) (λ sources. WritingFits (entry_path texts) sources result) }
@@ -63,6 +64,7 @@ pub fn run<F: Files, O: Outbox, G: Gate + Sync>(
 fn run_entry<F: Files, O: Outbox>(alloc: Global, path: &str, files: &mut F, out: &mut O) -> Status
     ensures command { IsOfCommand result }
     ensures winners { IfSome (F.told files.old) (λ sources. WinnersFit standard path.now sources (O.held out.old) (O.held out.new) result) }
+    ensures target { TargetFits standard (O.held out.old) (O.held out.new) result }
     ensures limit { IfSome (F.told files.old) (λ sources. LimitFits path.now sources result) }
     ensures refused { IfSome (F.told files.old) (λ sources. RefusalFits path.now sources result) }
     ensures accepted { IfSome (F.told files.old) (λ sources. WritingFits path.now sources result) }

@@ -1,8 +1,6 @@
 mod arguments;
 mod examples;
-mod large;
-mod large_texts;
-mod rows;
+mod puts;
 mod stingy;
 
 use crate::gate::NoGate;
@@ -85,21 +83,6 @@ fn refuses_a_file_that_is_not_there(rt: HostRuntime) -> Result<(), Fail> {
 }
 
 #[test]
-fn refuses_a_file_with_scoped_names(rt: HostRuntime) -> Result<(), Fail> {
-    let text = Vec::from_slice(rt.alloc(), b".a{")?;
-    let mut files = one_file(rt.alloc(), "x.module.css", text, false)?;
-    let mut out = outputs(rt.alloc())?;
-    let status = run(rt.alloc(), &["x.module.css"], &mut files, &mut out, &NoGate);
-    assert_eq!(rt; status, refused(Code::Unbuilt));
-    assert_eq!(rt;
-        out.held("!"),
-        Some(b"x.module.css:1:1: Unbuilt not built yet\n".as_slice())
-    );
-    assert_eq!(rt; out.held("-"), None);
-    Ok(())
-}
-
-#[test]
 fn names_the_file_whose_read_fails(rt: HostRuntime) -> Result<(), Fail> {
     let mut files = one_file(rt.alloc(), "a.css", Vec::new(rt.alloc()), true)?;
     let mut out = outputs(rt.alloc())?;
@@ -108,21 +91,6 @@ fn names_the_file_whose_read_fails(rt: HostRuntime) -> Result<(), Fail> {
     assert_eq!(rt;
         out.held("!"),
         Some(b"csslower: cannot read a.css\n".as_slice())
-    );
-    assert_eq!(rt; out.held("-"), None);
-    Ok(())
-}
-
-#[test]
-fn refuses_a_file_of_more_than_four_mebibytes(rt: HostRuntime) -> Result<(), Fail> {
-    let text = vec![in rt.alloc(); b' '; 4_194_305]?;
-    let mut files = one_file(rt.alloc(), "a.css", text, false)?;
-    let mut out = outputs(rt.alloc())?;
-    let status = run(rt.alloc(), &["a.css"], &mut files, &mut out, &NoGate);
-    assert_eq!(rt; status, Status::Limit(LimitKind::L2));
-    assert_eq!(rt;
-        out.held("!"),
-        Some(b"csslower: limit L2 passed\n".as_slice())
     );
     assert_eq!(rt; out.held("-"), None);
     Ok(())

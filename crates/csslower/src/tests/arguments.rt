@@ -1,4 +1,4 @@
-use super::{USAGE, one_file, outputs};
+use super::{one_file, outputs};
 use crate::args::run_args;
 use crate::status::{Status, WordKind};
 use css_outside::MemoryOutbox;
@@ -34,16 +34,6 @@ fn takes_the_words_after_the_name(rt: HostRuntime) -> Result<(), Fail> {
         let mut out = outputs(rt.alloc())?;
         assert_eq!(rt; run_over_a(rt.alloc(), args, &mut out)?, answer);
     }
-    Ok(())
-}
-
-#[test]
-fn takes_a_thousand_arguments(rt: HostRuntime) -> Result<(), Fail> {
-    let mut out = outputs(rt.alloc())?;
-    let args = ["a.css"; 1_000];
-    let status = run_over_a(rt.alloc(), &args, &mut out)?;
-    assert_eq!(rt; status, Status::Usage(WordKind::Words));
-    assert_eq!(rt; out.held("!"), Some(USAGE.as_bytes()));
     Ok(())
 }
 

@@ -1,17 +1,27 @@
 use Rattle.std.proofs.Common.{◌≡◌, ◌∙◌, ap, subst, sym}
 use Rattle.css_rules.specs.declared.sheet.Sheet.{Sheet}
 use Rattle.css_rules.specs.SheetTexts.{sheet_text}
-use Rattle.cascade_spec.specs.Readings.{KeepsWinners}
-use Rattle.csslower.specs.Findings.{HasComponents}
+use Rattle.cascade_spec.specs.Readings.{HasSheet, KeepsWinners}
+use Rattle.sheet_reader.specs.Texts.{SpellsSheet}
+use Rattle.csslower.specs.TargetTexts.{IsTargetText}
 use Rattle.csslower.proofs.one_file.rewrite.Goals as goal
+
+has_sheet : (text : _) (sheet : Sheet) → SpellsSheet text sheet → HasSheet text sheet
+has_sheet text sheet spelled = (spelled.0, record { reads = spelled.1.tokens.read; formed = spelled.1.formed }, spelled.2)
 
 pub returns-clause-kept : goal.returns-clause-kept
 returns-clause-kept c =
     let bytes = c.args.bytes.now in
-    let has : HasComponents bytes c.as_slice.result.now = subst (HasComponents bytes) (sym c.as_slice.ensures) c.in_ok-components.ensures.read in
     let sheet : Sheet = c.in_ok-sheet.sheet in
     let same : c.sheet.result.now ≡ sheet = c.sheet.ensures.same ∙ c.in_ok-clean.ensures.clean in
     subst (KeepsWinners bytes) (sym (c.in_ok-text.ensures ∙ ap sheet_text same))
-    (c.sheets_keep_winners.ensures.kept bytes sheet
-    (c.as_slice.result.now, record { reads = has.tokens.read; formed = has.formed }, c.in_ok-sheet.ensures.found)
+    (c.sheets_keep_winners.ensures.kept bytes sheet (has_sheet bytes sheet c.in_ok-sheet.ensures.spelled)
     (c.clean_sheets_are_whole.ensures 0 sheet c.in_ok-clean.ensures.nothing))
+
+pub returns-clause-target : goal.returns-clause-target
+returns-clause-target c =
+    let bytes = c.args.bytes.now in
+    let sheet : Sheet = c.in_ok-sheet.sheet in
+    let same : c.sheet.result.now ≡ sheet = c.sheet.ensures.same ∙ c.in_ok-clean.ensures.clean in
+    subst IsTargetText (sym (c.in_ok-text.ensures ∙ ap sheet_text same))
+    (c.printed_sheets_are_targets.ensures bytes sheet (has_sheet bytes sheet c.in_ok-sheet.ensures.spelled) c.in_ok-clean.ensures.nothing)

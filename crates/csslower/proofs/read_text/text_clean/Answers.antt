@@ -5,4 +5,4 @@ use Rattle.csslower.proofs.read_text.text_clean.Goals as goal
 
 pub returns-in-Err-clause-refused : goal.returns-in-Err-clause-refused
 unfolding HasFinding
-returns-in-Err-clause-refused c = inr (inr (inr (c.args.sheet.now, (c.args.components.now, c.requires.read, c.requires.found), ap (option_map code_and_offset) c.in-Err.ensures.found)))
+returns-in-Err-clause-refused c = inr (inr (inr (c.args.sheet.now, c.requires.spelled, ap (option_map code_and_offset) c.in-Err.ensures.found)))
