@@ -1,0 +1,5 @@
+pub mod WritingLemmas
+pub mod SpellingTexts
+pub mod SpellingTests
+pub mod SupportsTests
+pub mod Computing

@@ -1,0 +1,11 @@
+use Rattle.media_spelling.specs.Private.Texts.{behind_text}
+use Rattle.media_spelling.proofs.WritingLemmas.{start, more, within, within_last, on_err, on_err_map}
+use Rattle.std.proofs.Common.{refl}
+use Rattle.std.specs.Prelude.{codes}
+use Rattle.media_spelling.proofs.write.write_and.Goals as goal
+
+pub returns-in_err-write_bytes-clause-err : goal.returns-in_err-write_bytes-clause-err
+returns-in_err-write_bytes-clause-err c = on_err c.from_residual.result (within (codes " and ") (behind_text c.args.condition.now) (start c.args.out.now (_)) refl c.in_err-write_bytes.ensures.err)
+
+pub returns-clause-err : goal.returns-clause-err
+returns-clause-err c = on_err_map c.write_behind_type.result (within_last (more (codes " and ") (behind_text c.args.condition.now) (start c.args.out.now (_)) refl c.in_ok-write_bytes.ensures.ok)) c.write_behind_type.ensures.err

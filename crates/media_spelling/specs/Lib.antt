@@ -1,0 +1,10 @@
+pub mod ConditionFold
+pub mod SupportsFold
+pub mod Components
+pub mod TextComponents
+pub mod Spelling
+pub mod ConditionInduction
+pub mod SupportsInduction
+pub mod Preludes
+pub mod Samples
+pub mod Private

@@ -1,0 +1,15 @@
+pub mod TrimLemmas
+pub mod NameLemmas
+pub mod SignEquations
+pub mod ReadingLemmas
+pub mod ResultLemmas
+pub mod Utf8Lemmas
+pub mod Computing
+pub mod ConditionsAgain
+pub mod QueriesAgain
+pub mod FeaturesAgain
+pub mod SupportsAgain
+pub mod DeclarationsAgain
+pub mod TreePlaces
+pub mod QueryPlaces
+pub mod TextLemmas

@@ -1,0 +1,11 @@
+pub mod Private
+pub mod ComponentInduction
+pub mod ComponentSigns
+pub mod Marks
+pub mod Features
+pub mod Conditions
+pub mod Queries
+pub mod SupportsReading
+pub mod Faults
+pub mod ReadableQueries
+pub mod SupportsAgain
