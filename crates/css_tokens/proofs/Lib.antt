@@ -13,6 +13,7 @@ pub mod Fronts
 pub mod PlainFronts
 pub mod IdentStarts
 pub mod Kept
+pub mod KeywordLemmas
 pub mod MachineRows
 pub mod MachineStates
 pub mod OneBracketFault

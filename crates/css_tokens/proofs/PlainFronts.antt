@@ -267,6 +267,11 @@ unit_first t rest after n m h e f u i j g =
     number_with t rest n m kind.Dimension refl h e f
     (unit_found (classes_of rest) u (behind_run name (in_set set.Escape) rest after m false i j g) ∙ ap (λ (l : ℕ). Some (kind.Dimension, l)) (sym i))
 
+-- a first character of a set
+pub headed_by : (xs : List Class) (t : List ℕ) (x : Class) → 1 ≤ length t → x ≡ class_of (get_or t 0 0) → has xs x ≡ true → is_headed xs (classes_of t) ≡ true
+headed_by xs [] x l h e = absurd (omega arith)
+headed_by xs (b ∷ t) x l h e = ap (has xs) (sym h) ∙ e
+
 pub mark_first : (t : List ℕ) (k : Kind) (x : Class) → 1 ≤ length t → x ≡ class_of (get_or t 0 0) → next state.Start x ≡ state.End k → is_kind kind.Function k ≡ false → Some (k, 1) ≡ first_front t
 mark_first [] k x l h e f = absurd (omega arith)
 mark_first (b ∷ t) k x l h e f = first_of (b ∷ t) k 1 f (found_step state.Start (state.End k) (class_of b) (classes_of t) k 0 (ap (next state.Start) (sym h) ∙ e) (end_longest k (classes_of t)))

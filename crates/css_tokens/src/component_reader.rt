@@ -102,6 +102,7 @@ impl<'a> ComponentReader<'a> {
 }
 
 /// A fault of brackets, or else the place behind it where no token begins that is read.
+#[inline(never)]
 fn first_fault(fault: ComponentFault, behind: Cursor<'_>) -> ComponentFault
     requires { behind.at + length behind.rest.now < 2 ^ 32 }
     ensures { (front : List Piece) → IsFaultOf front fault → IsFaultBehind front behind.entry.rest.now behind.entry.at result }
@@ -116,6 +117,7 @@ fn first_fault(fault: ComponentFault, behind: Cursor<'_>) -> ComponentFault
 }
 
 /// Takes a token, which stands before the rest of the text.
+#[inline(always)]
 fn take<'a>(
     alloc: Global,
     nest: &mut Nest<'a>,
@@ -136,6 +138,7 @@ fn take<'a>(
 }
 
 /// Reads one more token of a block.
+#[inline(always)]
 fn take_next<'a>(
     alloc: Global,
     nest: &mut Nest<'a>,

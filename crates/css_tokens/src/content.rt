@@ -300,6 +300,7 @@ fn decode(alloc: Global, text: &str, end: End) -> Result<String, OutOfMemory>
 }
 
 /// The content of a text, where no `\` stands before its end. Takes no memory.
+#[inline(always)]
 fn plain_content(text: &str, end: End) -> Option<&str>
     ensures { IfSome result (λ front. front.now ≡ content (ends_of end) text.now) }
 {
@@ -315,6 +316,7 @@ fn plain_content(text: &str, end: End) -> Option<&str>
 }
 
 /// The content of a text up to what ends it, its escapes decoded; borrowed where it has none (CSS Syntax 3, section 4.3.7).
+#[inline(always)]
 pub(crate) fn content<'a>(alloc: Global, text: &'a str, end: End) -> Result<Text<'a>, OutOfMemory>
     ensures { IfOk result (λ name. name ≡ content (ends_of end) text.now) }
 {

@@ -208,20 +208,15 @@ pub(crate) fn plain_front(text: &[u8]) -> Option<(Kind, usize)>
     ensures value { IfSome result (λ front. Some front ≡ first_front text.now) }
     ensures within { IfSome result (λ front. front.1 ≤ length text.now) }
 {
-    if is_headed(Set::NameStart, text) {
-        return name(text);
+    let [byte, ..] = text else {
+        return None;
+    };
+    match classify(*byte) {
+        Class::Exponent | Class::Hex | Class::Letter | Class::High => name(text),
+        Class::Blank | Class::Feed | Class::Return | Class::FormFeed => white(text),
+        Class::Digit => number(text),
+        Class::Hash => hash(text),
+        Class::Dot => dot(text),
+        _ => mark(text),
     }
-    if is_headed(Set::White, text) {
-        return white(text);
-    }
-    if is_headed(Set::Digits, text) {
-        return number(text);
-    }
-    if is_headed(Set::Hash, text) {
-        return hash(text);
-    }
-    if is_headed(Set::Dot, text) {
-        return dot(text);
-    }
-    mark(text)
 }

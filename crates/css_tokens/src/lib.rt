@@ -9,6 +9,7 @@ mod content;
 mod cursor;
 pub mod examples;
 mod front;
+mod keyword;
 mod kind;
 mod laws;
 mod list;
@@ -26,6 +27,7 @@ mod value;
 pub use boxed::Boxed;
 pub use component::{Block, Component, copy_all};
 pub use component_reader::ComponentReader;
+pub use keyword::is_keyword;
 pub use kind::Kind;
 pub use laws::{
     components_or_fault, ids_spell, names_spell, names_stay, numbers_stay, one_bracket_fault,

@@ -4,6 +4,10 @@ ghost use Rattle.std.specs.Option.{option_copied};
 use crate::OutOfMemory;
 use std::alloc::Global;
 use std::marker::Model;
+use std::mem;
+
+/// From so many items on, a list is moved with its room.
+const MANY: usize = 256;
 
 /// A list that owns its items. Contracts see it as the list of them.
 #[derive(Debug, Drop)]
@@ -92,16 +96,22 @@ impl<T> List<T> {
         self.items.shrink_to_fit();
     }
 
-    /// Moves the items into a list that has room for them alone. This one keeps its room, for what comes next. A refusal
-    /// changes nothing.
+    /// Moves the items into a list that has room for them alone. This one keeps its room, for what comes next, unless they
+    /// are many: then their room goes with them, so that they are not copied. A refusal changes nothing.
     pub fn take_all(&mut self) -> Result<List<T>, OutOfMemory>
         ensures moved { IfOk result (λ list. list ≡ self.old) }
         ensures ok { OnOk result (self.new ≡ []) }
         ensures err { OnErr result (self.new ≡ self.old) }
     {
-        Ok(List {
-            items: self.items.split_off(0)?,
-        })
+        if self.items.len() < MANY {
+            return Ok(List {
+                items: self.items.split_off(0)?,
+            });
+        }
+        let empty = Vec::new(*self.items.allocator());
+        let mut items = mem::replace(&mut self.items, empty);
+        items.shrink_to_fit();
+        Ok(List { items })
     }
 }
 
@@ -115,6 +125,7 @@ impl<T: Drop> List<T> {
 
     /// Adds an item at the end. A refusal changes nothing, and drops the item. The first one takes room for itself alone,
     /// since most lists of a sheet hold one item.
+    #[inline(always)]
     pub fn push(&mut self, item: T) -> Result<(), OutOfMemory>
         ensures ok { OnOk result (self.new ≡ self.old ++ item ∷ []) }
         ensures err { OnErr result (self.new ≡ self.old) }
@@ -129,11 +140,16 @@ impl<T: Drop> List<T> {
 
 impl<T: Copy> List<T> {
     /// Adds items at the end. A refusal changes nothing.
+    #[inline(always)]
     pub fn extend_from_slice(&mut self, other: &[T]) -> Result<(), OutOfMemory>
         ensures ok { OnOk result (self.new ≡ self.old ++ other.now) }
         ensures err { OnErr result (self.new ≡ self.old) }
     {
-        self.items.extend_from_slice(other)?;
+        match other {
+            [] => {}
+            [item] => self.items.push(*item)?,
+            [_, _, ..] => self.items.extend_from_slice(other)?,
+        }
         Ok(())
     }
 }

@@ -91,6 +91,7 @@ pub(crate) fn closes(kind: Kind) -> bool
 
 impl<'a> Nest<'a> {
     /// Takes a token that neither opens nor closes.
+    #[inline(always)]
     fn single(&mut self, token: Token<'a>) -> Result<(), OutOfMemory>
         requires opens { opens token.kind ≡ false }
         requires closes { closes token.kind ≡ false }
@@ -117,6 +118,8 @@ impl<'a> Nest<'a> {
     }
 
     /// Takes a token that opens a block.
+    // Out of line, as `end` is, so that a token between brackets is taken in few steps.
+    #[inline(never)]
     fn begin(&mut self, alloc: Global, token: Token<'a>) -> Result<(), OutOfMemory>
         requires opens { opens token.kind ≡ true }
         ensures pieces { OnOk result (nest_pieces self.new ≡ nest_pieces self.old ++ token.entry ∷ []) }
@@ -133,6 +136,7 @@ impl<'a> Nest<'a> {
     }
 
     /// Takes a token that closes a block, if it matches the innermost open one.
+    #[inline(never)]
     fn end(&mut self, alloc: Global, token: &Token<'a>) -> Result<(), ComponentFault>
         requires { closes token.now.kind ≡ true }
         ensures pieces { OnOk result (nest_pieces self.new ≡ nest_pieces self.old ++ token.now ∷ []) }
@@ -165,6 +169,7 @@ impl<'a> Nest<'a> {
     }
 
     /// Takes the next token.
+    #[inline(always)]
     pub(crate) fn take(&mut self, alloc: Global, token: &Token<'a>) -> Result<(), ComponentFault>
         requires { length (nest_awaited self.old) ≤ 64 }
         ensures pieces { OnOk result (nest_pieces self.new ≡ nest_pieces self.old ++ token.now ∷ []) }

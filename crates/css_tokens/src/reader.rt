@@ -260,14 +260,11 @@ fn begins_url(kind: Kind, front: &[u8], rest: &[u8]) -> bool
     is_url_function(kind, front) && !is_quote_next(rest)
 }
 
-/// The kind and the length of the first token, where there is one.
-pub(crate) fn first(text: &[u8]) -> Option<(Kind, usize)>
+/// The kind and the length of the first token, where there is one, told character by character.
+fn machine_front(text: &[u8]) -> Option<(Kind, usize)>
     ensures value { result ≡ first_front text.now }
     ensures within { IfSome result (λ front. front.1 ≤ length text.now) }
 {
-    if let Some(front) = plain_front(text) {
-        return Some(front);
-    }
     let front = longest_front(State::Start, text)?;
     let (name, rest) = text.split_at(front.1);
     if begins_url(front.0, name, rest) {
@@ -275,4 +272,15 @@ pub(crate) fn first(text: &[u8]) -> Option<(Kind, usize)>
         return Some((inside.0, inside.1 + front.1));
     }
     Some(front)
+}
+
+/// The kind and the length of the first token, where there is one.
+pub(crate) fn first(text: &[u8]) -> Option<(Kind, usize)>
+    ensures value { result ≡ first_front text.now }
+    ensures within { IfSome result (λ front. front.1 ≤ length text.now) }
+{
+    match plain_front(text) {
+        Some(front) => Some(front),
+        None => machine_front(text),
+    }
 }

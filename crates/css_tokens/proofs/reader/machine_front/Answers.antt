@@ -3,7 +3,7 @@ use Rattle.std.specs.Option.{option_map}
 use Rattle.css_tokens.specs.Kinds.{url_table}
 use Rattle.css_tokens.specs.Tokens.{front_of, longer}
 use Rattle.css_tokens.proofs.Spelling.{by_rule, first_by}
-use Rattle.css_tokens.proofs.reader.first.Goals as goal
+use Rattle.css_tokens.proofs.reader.machine_front.Goals as goal
 
 pub returns-in_err-inside-clause-value : goal.returns-in_err-inside-clause-value
 returns-in_err-inside-clause-value c =
