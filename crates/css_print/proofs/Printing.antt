@@ -1,18 +1,15 @@
 -- The texts of items, and whether anything of them is printed.
-use Rattle.std.proofs.Common.{◌≡◌, ℕ, ◌<◌, List, [], ◌∷◌, ◌++◌, Bool, true, false, ◌||◌, not, map, length, arith, codes, refl, ap, sym, subst, ◌∙◌}
+use Rattle.std.proofs.Common.{◌≡◌, ℕ, ◌<◌, List, [], ◌∷◌, ◌++◌, Bool, true, false, ◌||◌, not, map, length, arith, codes, refl, ap, sym, ◌∙◌}
 use Rattle.std.specs.Prelude.{flat_map, IsTrue, ◌↔◌}
 use Rattle.std.proofs.lemmas.List.Folds.{flat_map-map}
 use Rattle.css_tokens.specs.NameText.{name_text}
 use Rattle.css_rules.specs.declared.sheet.Declaration.{Declaration}
-use Rattle.css_rules.specs.declared.sheet.Item.{Item, Plain, Style as the_style, out-Item}
-use Rattle.css_rules.specs.declared.sheet.Item as item_of
-use Rattle.css_rules.specs.declared.sheet.Item.TheOpen.{Item-F}
-use Rattle.css_rules.specs.declared.sheet.Item.TheOpen as inner
-use Rattle.css_rules.specs.declared.sheet.Item.TheFolds.{fold_out-Item}
-use Rattle.css_rules.specs.declared.sheet.Style.{Style, fold-Style}
+use Rattle.css_rules.specs.ItemInduction.{by_items}
+use Rattle.css_rules.specs.declared.sheet.Item.{Item, Plain, Style as the_style}
+use Rattle.css_rules.specs.declared.sheet.Style.{Style}
 use Rattle.selector_types.specs.declared.selector.Selector.{Selector}
 use Rattle.selector_types.specs.Spelling.{list_text}
-use Rattle.css_rules.specs.SheetTexts.{ItemText, block_text, braced_text, declaration_text, ended_declarations, item_text, more_declarations, printed_item, printed_item-Plain, printed_item-Style, rule_text, style_text}
+use Rattle.css_rules.specs.SheetTexts.{ItemText, block_text, braced_text, declaration_text, declarations_text, ended_declarations, more_declarations, printed_item, printed_item-Plain, printed_item-Style, rule_text}
 use Rattle.css_print.specs.Private.Printed.{holds_bytes}
 
 -- the text of an item that is alone in its block, and its text among others
@@ -60,18 +57,19 @@ held-plain ds b e = at ds b e ∙ sym (ap (λ (t : ItemText). holds_bytes t.amon
     at (d ∷ ds) true e = absurd (cc (e.0 refl))
     at (d ∷ ds) false e = sym (held-front (declaration_text d ++ codes ";") (ended_declarations ds) (held-front (declaration_text d) (codes ";") (held-declaration d)))
 
-held-inside : (t : Item-F ItemText (List ℕ)) → holds_bytes (item_text t).alone ≡ holds_bytes (item_text t).among
-held-inside (inner.Style text) = refl
-held-inside (inner.Plain []) = refl
-held-inside (inner.Plain (d ∷ ds)) =
-    held-front (declaration_text d) (more_declarations ds) (held-declaration d)
-    ∙ sym (held-front (declaration_text d ++ codes ";") (ended_declarations ds) (held-front (declaration_text d) (codes ";") (held-declaration d)))
-
 -- an item that is alone is printed where it is among others
 held-alone : (item : Item) → holds_bytes (text_alone item) ≡ holds_bytes (text_among item)
 held-alone item =
-    let texts = item_of.map-Item Item Style ItemText (List ℕ) printed_item (fold-Style ItemText (List ℕ) item_text style_text) (out-Item item) in
-    subst (λ (t : ItemText). holds_bytes t.alone ≡ holds_bytes t.among) (sym (fold_out-Item ItemText (List ℕ) item_text style_text item)) (held-inside texts)
+    by_items (λ x. holds_bytes (text_alone x) ≡ holds_bytes (text_among x)) (record {
+      plain = λ ds. ap (λ (t : ItemText). holds_bytes t.alone) (printed_item-Plain ds) ∙ run ds ∙ sym (ap (λ (t : ItemText). holds_bytes t.among) (printed_item-Plain ds));
+      style = λ s each. ap (λ (t : ItemText). holds_bytes t.alone) (printed_item-Style s) ∙ sym (ap (λ (t : ItemText). holds_bytes t.among) (printed_item-Style s));
+    }) item
+  where
+    run : (ds : List Declaration) → holds_bytes (declarations_text ds) ≡ holds_bytes (ended_declarations ds)
+    run [] = refl
+    run (d ∷ ds) =
+        held-front (declaration_text d) (more_declarations ds) (held-declaration d)
+        ∙ sym (held-front (declaration_text d ++ codes ";") (ended_declarations ds) (held-front (declaration_text d) (codes ";") (held-declaration d)))
 
 or_false : (b : Bool) → (b || false) ≡ b
 or_false true = refl

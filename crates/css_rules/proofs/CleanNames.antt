@@ -7,7 +7,6 @@ use Rattle.std.specs.Str.{IsUtf8, chars, is_utf8}
 use Rattle.std.proofs.lemmas.Bool.{cases_Bool, and_parts, not-true, agree_below_at, eqb-true, false≢true}
 use Rattle.std.proofs.lemmas.Bool.Decides.{nat_tests}
 use Rattle.std.proofs.lemmas.Str.{IsUtf8-append, IsUtf8-from_is_utf8, is_utf8-from_IsUtf8, encode_ascii, encodes-chars, scalars-chars, encode_same}
-use lib.Pointwise.{bytes_decides}
 use lib.Utf8.{encode, encodes, next, scalar, scalars}
 use Rattle.css_tokens.specs.NameText.{char_text, first_text, needs_code, stands_for_itself, code_escape, name_text, chars_text, after_dash}
 use Rattle.css_tokens.specs.Names.{is_name}

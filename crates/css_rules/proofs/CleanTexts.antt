@@ -1,32 +1,27 @@
--- The text of a printed sheet is in UTF-8, has no control character, and begins with no byte order mark.
-use Rattle.std.proofs.Common.{◌≡◌, ◌<◌, ℕ, zero, suc, arith, get_or, List, [], ◌∷◌, ◌++◌, map, Bool, true, false, not, ◌||◌, cond, refl, sym, ap, ◌∙◌, subst, append_assoc, codes, length, take, Option, Some, None, nat_eq}
+-- The text of printed items is in UTF-8, has no control character, and begins with no byte order mark.
+use Rattle.std.proofs.Common.{◌≡◌, ◌<◌, ℕ, zero, suc, arith, get_or, List, [], ◌∷◌, ◌++◌, map, Bool, true, false, not, ◌||◌, cond, refl, sym, ap, ◌∙◌, append_assoc, codes, length, take, Option, Some, None, nat_eq}
 use Rattle.std.specs.Prelude.{IsTrue}
 use Rattle.std.specs.List.{list_all, list_any, position, AllByRecursion}
-use Rattle.std.specs.Str.Lossy.{utf8_valid_len}
 use Rattle.std.proofs.lemmas.Bool.{false≢true}
 use Rattle.std.proofs.lemmas.List.Quantifiers.{position-Some}
 use Rattle.std.proofs.lemmas.Str.{utf8_valid_len-IsUtf8}
 use Rattle.css_tokens.specs.declared.component.Component.{Component}
-use Rattle.css_tokens.specs.declared.kind.Kind.{Kind}
 use Rattle.css_tokens.specs.NameText.{name_text}
 use Rattle.css_tokens.specs.Piece.{Word, spelled}
-use Rattle.css_tokens.specs.Tokens.{bad_place, broken_place, is_control, mark_length, or_else}
+use Rattle.css_tokens.specs.Tokens.{bad_place, is_control, mark_length, or_else}
 use Rattle.css_tokens.specs.Trees.{words_all}
-use Rattle.css_tokens.specs.Values.{is_gap, is_white, short_word, single_gaps, after_gap, word_kind, shortened_words, printed_words, value_words, value_text}
+use Rattle.css_tokens.specs.Values.{is_gap, is_white, short_word, single_gaps, after_gap, word_kind, shortened_words, printed_words, value_words}
 use Rattle.css_rules.specs.declared.sheet.Declaration.{Declaration}
 use Rattle.selector_types.specs.declared.selector.Selector.{Selector}
-use Rattle.selector_types.specs.Erased.{erased}
 use Rattle.selector_types.specs.Spelling.{list_text}
-use Rattle.css_rules.specs.Contexts.{outside, under_list}
-use Rattle.css_rules.specs.Printable.{IsPrintableDeclaration, ArePrintable}
+use Rattle.css_rules.specs.declared.sheet.Item.{Item}
+use Rattle.css_rules.specs.Printable.{IsPrintableDeclaration, IsPrintableLeaf, ArePrintable}
 use Rattle.selector_types.specs.ReadableSelectors.{is_clean, is_named, is_readable_list, is_spelled}
-use Rattle.css_rules.specs.Runs.{Run}
-use Rattle.css_rules.specs.SheetTexts.{braced_text, declaration_text, declarations_text, importance_text, innermost, more_declarations, printed_value, run_text, runs_text}
+use Rattle.css_rules.specs.SheetTexts.{braced_text, declaration_text, declarations_text, importance_text, items_text, more_declarations, printed_item, printed_value}
 use Rattle.css_rules.proofs.CleanNames.{clean-append, clean-parts, name-clean, plain-clean}
 use Rattle.css_rules.proofs.DeclarationLemmas.{or_false_left, or_false_right}
-use Rattle.css_rules.proofs.RulesAgain.{made}
+use Rattle.css_rules.proofs.ItemShapes.{TopCases, by_tops, text-empty, text-run}
 use Rattle.css_rules.proofs.BoolLemmas.{and-left, and-right}
-use Rattle.css_rules.proofs.SpellingErased.{text-erased}
 use Rattle.css_rules.proofs.SoughtAgain.{any-after_gap, any-before_gap, any-parted, any-single_gaps}
 
 -- A clean text has no bad place.
@@ -127,38 +122,60 @@ more-clean (d ∷ ds) p =
     (clean-append (codes ";") (declaration_text d) (plain-clean (codes ";") refl) (declaration-clean d p.0))
     (more-clean ds p.1)
 
+declarations-clean : (ds : List Declaration) → AllByRecursion IsPrintableDeclaration ds → is_clean (declarations_text ds) ≡ true
+declarations-clean [] p = plain-clean [] refl
+declarations-clean (d ∷ ds) p = clean-append (declaration_text d) (more_declarations ds) (declaration-clean d p.0) (more-clean ds p.1)
+
 -- what is ensured of the texts of selector lists
 pub record ListTexts : Type 0 where
   pub clean : (ss : List Selector) → IsTrue (is_readable_list false ss) → IsTrue (is_clean (list_text ss))
   pub unmarked : (ss : List Selector) (rest : List ℕ) → IsTrue (is_readable_list false ss) → mark_length (list_text ss ++ rest) ≡ 0
 
--- Sheets.
+-- Items.
 
 module _ (texts : ListTexts) where
-  run-clean : (list : List Selector) (d : Declaration) (ds : List Declaration) → is_readable_list false list ≡ true → AllByRecursion IsPrintableDeclaration (d ∷ ds) → is_clean (braced_text (map erased list) (declarations_text (d ∷ ds))) ≡ true
-  run-clean list d ds h p =
-      let inside = declarations_text (d ∷ ds) in
+  braced-clean : (list : List Selector) (ds : List Declaration) → is_readable_list false list ≡ true → AllByRecursion IsPrintableDeclaration ds → is_clean (braced_text list (declarations_text ds)) ≡ true
+  braced-clean list ds h p =
+      let inside = declarations_text ds in
       let behind = codes "{" ++ (inside ++ (codes "}" ++ 10 ∷ [])) in
-      ap (λ t. is_clean (t ++ behind)) (text-erased list)
-      ∙ clean-append (list_text list) behind (texts.clean list h)
+      clean-append (list_text list) behind (texts.clean list h)
       (clean-append (codes "{") (inside ++ (codes "}" ++ 10 ∷ [])) (plain-clean (codes "{") refl)
-      (clean-append inside (codes "}" ++ 10 ∷ []) (clean-append (declaration_text d) (more_declarations ds) (declaration-clean d p.0) (more-clean ds p.1)) (plain-clean (codes "}" ++ 10 ∷ []) refl)))
+      (clean-append inside (codes "}" ++ 10 ∷ []) (declarations-clean ds p) (plain-clean (codes "}" ++ 10 ∷ []) refl)))
 
-  pub sheet-clean : (runs : List Run) → ArePrintable runs → is_clean (runs_text runs) ≡ true
-  sheet-clean [] p = plain-clean [] refl
-  sheet-clean (run ∷ runs) p =
-      let m = made run p.0 in
-      let P : Run → Type 0 = λ r. is_clean (run_text r) ≡ true in
-      clean-append (run_text run) (runs_text runs) (subst P (sym m.is) (run-clean m.list m.first m.more m.readable m.each)) (sheet-clean runs p.1)
+  abbrev IsClean : Item → Type 0
+  IsClean x = is_clean (printed_item x).among ≡ true
 
-  -- no byte order mark stands at its start
-  pub sheet-unmarked : (runs : List Run) → ArePrintable runs → mark_length (runs_text runs) ≡ 0
-  sheet-unmarked [] p = refl
-  sheet-unmarked (run ∷ runs) p =
-      let m = made run p.0 in
-      let P : Run → Type 0 = λ r. mark_length (run_text r ++ runs_text runs) ≡ 0 in
-      let inside = codes "{" ++ (declarations_text (m.first ∷ m.more) ++ (codes "}" ++ 10 ∷ [])) in
-      subst P (sym m.is)
-      (ap (λ t. mark_length ((t ++ inside) ++ runs_text runs)) (text-erased m.list)
-      ∙ ap mark_length (append_assoc (list_text m.list) inside (runs_text runs))
-      ∙ texts.unmarked m.list (inside ++ runs_text runs) m.readable)
+  clean-cases : TopCases IsPrintableLeaf IsClean
+  clean-cases = record {
+    empty = λ s none. ap is_clean (text-empty s none) ∙ plain-clean [] refl;
+    rule = λ s run fine each. ap is_clean (text-run s run) ∙ braced-clean s.selectors (run.first ∷ run.more) fine.readable each;
+  }
+
+  all-clean : (xs : List Item) → AllByRecursion IsClean xs → is_clean (items_text xs) ≡ true
+  all-clean [] each = plain-clean [] refl
+  all-clean (x ∷ xs) each = clean-append (printed_item x).among (items_text xs) each.0 (all-clean xs each.1)
+
+  pub items-clean : (xs : List Item) → ArePrintable xs → is_clean (items_text xs) ≡ true
+  items-clean xs p = all-clean xs (by_tops IsPrintableLeaf IsClean clean-cases xs p.tops p.fine)
+
+  -- no byte order mark stands at the start where none stands at the start of what follows
+  abbrev IsUnmarked : Item → Type 0
+  IsUnmarked x = (rest : List ℕ) → mark_length rest ≡ 0 → mark_length ((printed_item x).among ++ rest) ≡ 0
+
+  unmarked-cases : TopCases IsPrintableLeaf IsUnmarked
+  unmarked-cases = record {
+    empty = λ s none rest h. ap (λ t. mark_length (t ++ rest)) (text-empty s none) ∙ h;
+    rule = λ s run fine each rest h.
+        let list = s.selectors in
+        let behind = codes "{" ++ (declarations_text (run.first ∷ run.more) ++ (codes "}" ++ 10 ∷ [])) in
+        ap (λ t. mark_length (t ++ rest)) (text-run s run)
+        ∙ ap mark_length (append_assoc (list_text list) behind rest)
+        ∙ texts.unmarked list (behind ++ rest) fine.readable;
+  }
+
+  all-unmarked : (xs : List Item) → AllByRecursion IsUnmarked xs → mark_length (items_text xs) ≡ 0
+  all-unmarked [] each = refl
+  all-unmarked (x ∷ xs) each = each.0 (items_text xs) (all-unmarked xs each.1)
+
+  pub items-unmarked : (xs : List Item) → ArePrintable xs → mark_length (items_text xs) ≡ 0
+  items-unmarked xs p = all-unmarked xs (by_tops IsPrintableLeaf IsUnmarked unmarked-cases xs p.tops p.fine)

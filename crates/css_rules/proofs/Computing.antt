@@ -1,5 +1,5 @@
 -- How components and sheets that are written out are laid open, so that definitions of them compute.
-use Rattle.std.proofs.Common.{◌≡◌, ℕ, List, [], ◌∷◌, ◌++◌, map, flat_map}
+use Rattle.std.proofs.Common.{◌≡◌, ℕ, List, [], ◌∷◌, ◌++◌, map}
 use Rattle.css_tokens.specs.declared.component.Component.{Component, out-Component}
 use Rattle.css_tokens.specs.declared.component.Component as component
 use Rattle.css_tokens.specs.declared.component.Component.TheOpen.{Block}
@@ -18,14 +18,11 @@ use Rattle.selector_types.specs.declared.selector.Link.TheVariants.{outs-Linked}
 use Rattle.selector_types.specs.SelectorFold.{Steps, made_part, made_link, folded_compound, folded_selector, folded-Class, folded-Id, folded-Attribute, folded-Pseudo, folded-Not, folded-Is, folded-Where, folded-Parent, folded-Local, folded-Global, folded-Foreign, folded-Compound, folded-Selector}
 use Rattle.selector_tree.specs.Signs.{mark_of, mark_of-Single, mark_of-Block, block_mark}
 use Rattle.css_rules.specs.Erased.{erased-Single}
-use Rattle.css_rules.specs.Contexts.{Context, under_list}
 use Rattle.selector_types.specs.declared.selector.Selector.{Selector}
+use Rattle.css_rules.specs.declared.sheet.Declaration.{Declaration}
 use Rattle.css_rules.specs.declared.sheet.Item.{Item}
 use Rattle.css_rules.specs.declared.sheet.Item as item
-use Rattle.css_rules.specs.declared.sheet.Item.TheOpen.{Style}
-use Rattle.selector_types.specs.Erased.{erased as erased_selector}
-use Rattle.css_rules.specs.SheetTexts.{block_text, item_text, printed_item, printed_item-Plain, printed_item-Style, rule_text}
-use Rattle.css_rules.specs.Runs.{runs_within, runs_within-Plain, runs_within-Style}
+use Rattle.css_rules.specs.ItemFold as items
 
 -- a block, and its tokens
 pub block-out : (opening : Piece) (items : List Component) (close : ℕ)
@@ -36,14 +33,13 @@ pub block-pieces : (opening : Piece) (items : List Component) (close : ℕ)
     → pieces_of (component.Block (record { opening = opening; items = items; close = close })) ≡ opening ∷ pieces_all items ++ closing opening close ∷ []
 block-pieces opening items close = pieces_of-Block (record { opening = opening; items = items; close = close })
 
--- how a style rule prints, and its runs
-pub rule-printed : (selectors : List Selector) (items : List Item) (at : ℕ)
-    → printed_item (item.Style (record { selectors = selectors; items = items; at = at })) ≡ item_text (Style (rule_text selectors (block_text (map printed_item items))))
-rule-printed selectors items at = printed_item-Style (record { selectors = selectors; items = items; at = at })
+-- what is made of items that are written out
+pub made-plain : {A : Type 0} (steps : items.Steps A) (ds : List Declaration) → items.folded steps (item.Plain ds) ≡ steps.plain ds
+made-plain steps ds = items.folded-Plain steps ds
 
-pub rule-runs : (selectors : List Selector) (items : List Item) (at : ℕ) (c : Context)
-    → runs_within (item.Style (record { selectors = selectors; items = items; at = at })) c ≡ flat_map (λ inner. runs_within inner (under_list (map erased_selector selectors) c)) items
-rule-runs selectors items at c = runs_within-Style (record { selectors = selectors; items = items; at = at }) c
+pub made-rule : {A : Type 0} (steps : items.Steps A) (selectors : List Selector) (inner : List Item) (at : ℕ)
+    → items.folded steps (item.Style (record { selectors = selectors; items = inner; at = at })) ≡ steps.style selectors at (map (items.folded steps) inner)
+made-rule steps selectors inner at = items.folded-Style steps (record { selectors = selectors; items = inner; at = at })
 
 -- a compound and a selector that are written out
 pub made-compound : {M K S : Type 0} (steps : Steps M K S) (kind : TypeName) (parts : List part.Part) (tail : Option tail.Tail)
@@ -60,4 +56,4 @@ pub block-mark : (opening : Piece) (items : List Component) (close : ℕ)
 block-mark opening items close = mark_of-Block (record { opening = opening; items = items; close = close })
 
 -- the equations by which the worked examples compute
-pub ruleset computing = (outs-Single, block-out, pieces_of-Single, block-pieces, printed_item-Plain, rule-printed, runs_within-Plain, rule-runs, shortened-Single, parted_within-Single, takes_last-Single, erased-Single, head_kind-Single, outs-Linked, folded-Class, folded-Id, folded-Attribute, folded-Pseudo, folded-Not, folded-Is, folded-Where, folded-Parent, folded-Local, folded-Global, folded-Foreign, made-compound, made-selector, mark_of-Single, block-mark)
+pub ruleset computing = (outs-Single, block-out, pieces_of-Single, block-pieces, made-plain, made-rule, shortened-Single, parted_within-Single, takes_last-Single, erased-Single, head_kind-Single, outs-Linked, folded-Class, folded-Id, folded-Attribute, folded-Pseudo, folded-Not, folded-Is, folded-Where, folded-Parent, folded-Local, folded-Global, folded-Foreign, made-compound, made-selector, mark_of-Single, block-mark)

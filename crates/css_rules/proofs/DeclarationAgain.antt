@@ -18,7 +18,7 @@ use Rattle.css_rules.specs.Cuts.{cuts_at, trimmed, trimmed_start, trimmed_end}
 use Rattle.css_rules.specs.Declarations.{property_name, after_colon, may_be_value, is_important, value_of, declared, declared_after, declaration_of, begins_custom}
 use Rattle.css_rules.specs.Refusals.{has_sought, is_unbuilt_property, sought_for}
 use Rattle.css_rules.specs.Sheets.{begins_at_rule, built, ends_in_braces, ends_item, is_unbuilt, item_of, plain_item}
-use Rattle.css_rules.specs.Runs.{bare_declaration}
+use Rattle.css_rules.specs.Statements.{bare_declaration}
 use Rattle.css_rules.specs.Printable.{IsPrintableDeclaration, begins_solid}
 use Rattle.css_rules.proofs.Heads.{word, single_of}
 use Rattle.css_rules.specs.SheetAgain.{value_or_space, importance_again, declaration_again}

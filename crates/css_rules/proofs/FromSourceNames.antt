@@ -1,6 +1,5 @@
 -- Names in lower case.
-use Rattle.std.proofs.Common.{◌≡◌, ℕ, List, [], ◌∷◌, Bool, true, false, ◌&&◌, ◌||◌, cond, nat_eq, refl, ◌∙◌, ap, arith}
-use Rattle.std.specs.List.{list_all}
+use Rattle.std.proofs.Common.{◌≡◌, ℕ, List, [], ◌∷◌, Bool, true, false, ◌&&◌, cond, nat_eq, refl, ◌∙◌, ap, arith}
 use Rattle.std.specs.Char.{to_ascii_lowercase}
 use Rattle.std.specs.Str.{str_to_ascii_lowercase}
 use Rattle.std.proofs.lemmas.Bool.Decides.{nat_tests}
@@ -8,7 +7,6 @@ use Rattle.css_tokens.specs.Names.{is_name}
 use Rattle.css_rules.proofs.LowerNames.{lower-name}
 use Rattle.css_rules.specs.Components.{is_custom}
 use Rattle.css_rules.specs.Declarations.{property_name}
-use Rattle.css_rules.proofs.BoolLemmas.{and-left, and-right, and-both}
 
 dash-lower : (b : ℕ) → nat_eq 45 (to_ascii_lowercase b) ≡ nat_eq 45 b
 dash-lower b = grind (arith, nat_tests)

@@ -1,5 +1,5 @@
 -- What means `important` begins with no `-`, so that a `!` before it is a stop.
-use Rattle.std.proofs.Common.{◌≡◌, ◌<◌, ◌≤◌, ℕ, arith, List, [], ◌∷◌, ◌++◌, Bool, true, false, ◌||◌, refl, subst, sym, ◌∙◌, inl, inr, codes, nat_eq, ltb, ltb-true, ltb-false}
+use Rattle.std.proofs.Common.{◌≡◌, ◌<◌, ◌≤◌, ℕ, arith, List, [], ◌∷◌, ◌++◌, Bool, true, false, ◌||◌, refl, subst, sym, inl, inr, codes, nat_eq, ltb, ltb-true, ltb-false}
 use Rattle.std.proofs.lemmas.Bool.{agree_below_at, cases_Bool, eqb-true, false≢true}
 use Rattle.std.proofs.lemmas.Bool.Decides.{nat_tests}
 use Rattle.std.specs.Str.{chars, is_utf8}

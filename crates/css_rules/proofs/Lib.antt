@@ -10,7 +10,6 @@ pub mod SheetBuilderLemmas
 pub mod BoolLemmas
 pub mod WaitingLemmas
 pub mod ListsRead
-pub mod SpellingErased
 pub mod TreeTexts
 pub mod PreludeTests
 pub mod WaitingTrees
@@ -24,8 +23,11 @@ pub mod ValueFacts
 pub mod SoughtAgain
 pub mod DeclarationAgain
 pub mod SheetRound
-pub mod FlatRules
 pub mod PreludeAgain
+pub mod BareLemmas
+pub mod SaidItems
+pub mod ItemShapes
+pub mod ItemLists
 pub mod RulesAgain
 pub mod RuleShapes
 pub mod PlainRules
@@ -46,9 +48,7 @@ pub mod Within
 pub mod WithinRefusals
 pub mod FirstRefusals
 pub mod FirstFaults
-pub mod FlatTexts
 pub mod Computing
-pub mod SaidRuns
 pub mod LowerNames
 pub mod CleanNames
 pub mod ImportantNames

@@ -1,8 +1,8 @@
 -- A name in lower case is one.
-use Rattle.std.proofs.Common.{◌≡◌, ℕ, ◌<◌, ◌≤◌, ◌+◌, ◌/◌, List, [], ◌∷◌, ◌++◌, map, Bool, true, false, not, ◌&&◌, ltb, refl, sym, ap, ap₂, ◌∙◌, inl, inr, arith, nat_eq, ltb-true, ltb-false}
+use Rattle.std.proofs.Common.{◌≡◌, ℕ, ◌<◌, ◌≤◌, ◌+◌, ◌/◌, List, [], ◌∷◌, ◌++◌, map, Bool, true, not, ◌&&◌, ltb, refl, sym, ap, ap₂, ◌∙◌, inl, inr, arith, nat_eq, ltb-true, ltb-false}
 use Rattle.std.specs.Char.{to_ascii_lowercase}
 use Rattle.std.specs.List.{list_all}
-use Rattle.std.specs.Str.{IsUtf8, chars, is_utf8, str_to_ascii_lowercase}
+use Rattle.std.specs.Str.{chars, is_utf8, str_to_ascii_lowercase}
 use Rattle.std.proofs.lemmas.Bool.{cases_Bool, and_parts, false≢true}
 use Rattle.std.proofs.lemmas.Bool.Decides.{nat_tests}
 use Rattle.std.proofs.lemmas.List.{map-append}

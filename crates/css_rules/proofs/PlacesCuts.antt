@@ -14,7 +14,7 @@ use Rattle.css_rules.specs.Refusals.{has_sought, is_unbuilt_property, sought_for
 use Rattle.css_rules.specs.Sheets.{begins_at_rule, built, declarations_of, ends_in_braces, ends_item, ends_rule, is_rule, is_unbuilt, item_of, plain_item}
 use Rattle.css_rules.proofs.ReadAllLemmas.{mapped-all}
 use Rattle.css_rules.proofs.SoughtAgain.{sought-words, word_sought}
-use Rattle.css_rules.specs.Runs.{bare_declaration}
+use Rattle.css_rules.specs.BareItems.{bared}
 use Rattle.css_rules.proofs.PlacesTrees.{bare_value-erased, words-erased}
 use Rattle.css_rules.specs.Erased.{placeless, erased}
 use Rattle.css_rules.proofs.PlacesLayers.{head-erased, gap-erased, ident-erased, at-erased, colon-erased, semicolon-erased, bang-erased, braces-erased}
@@ -229,12 +229,12 @@ declarations-erased block =
     ap (read_all item_of) (cuts-erased ends_item ends_item-erased [] block)
     ∙ sym (mapped-all (map erased_declaration) item_of item_of erased_cut refl (λ xs ys. map-append erased_declaration xs ys) item-erased (cuts ends_item block))
 
-bare-erased : (d : Declaration) → bare_declaration (erased_declaration d) ≡ bare_declaration d
-bare-erased d = ap (λ value. record { name = d.name; value = value; important = d.important }) (bare_value-erased d.value)
+bared-erased : (d : Declaration) → bared (erased_declaration d) ≡ bared d
+bared-erased d = ap (λ value. record { name = d.name; value = value; important = d.important; at = 0 }) (bare_value-erased d.value)
 
--- they say the same
-pub bares-erased : (ds : List Declaration) → map bare_declaration (map erased_declaration ds) ≡ map bare_declaration ds
-bares-erased [] = refl
-bares-erased (d ∷ ds) =
-    ap (λ b. b ∷ map bare_declaration (map erased_declaration ds)) (bare-erased d)
-    ∙ ap (λ bs. bare_declaration d ∷ bs) (bares-erased ds)
+-- they are printed alike
+pub bareds-erased : (ds : List Declaration) → map bared (map erased_declaration ds) ≡ map bared ds
+bareds-erased [] = refl
+bareds-erased (d ∷ ds) =
+    ap (λ e. e ∷ map bared (map erased_declaration ds)) (bared-erased d)
+    ∙ ap (λ (es : List Declaration). bared d ∷ es) (bareds-erased ds)

@@ -1,5 +1,5 @@
--- The text of a printed sheet reads as the words of its components.
-use Rattle.std.proofs.Common.{◌≡◌, ℕ, List, [], ◌∷◌, ◌++◌, map, Bool, true, false, not, refl, sym, ◌∙◌, ap, subst, IsTrue, codes, length, drop}
+-- The text of printed items reads as the words of their components.
+use Rattle.std.proofs.Common.{◌≡◌, ℕ, List, [], ◌∷◌, ◌++◌, Bool, true, false, not, refl, sym, ◌∙◌, ap, subst, IsTrue, codes, length, drop}
 use Rattle.std.specs.List.{AllByRecursion}
 use Rattle.std.proofs.lemmas.List.{append_assoc, append-nil}
 use Rattle.css_tokens.specs.declared.kind.Kind.TheVariants as kinds
@@ -10,30 +10,28 @@ use Rattle.css_tokens.specs.Names.{is_name}
 use Rattle.css_tokens.specs.PlainNames.{is_plain_name}
 use Rattle.css_tokens.specs.Characters.{white}
 use Rattle.css_tokens.specs.Again.{StaysFirst, is_stop, marks, word_from, begins_none, after_ident}
-use Rattle.css_tokens.specs.Tokens.{ReadsTo, Reads, classes_of, is_refused, spells, after_mark, bad_place}
+use Rattle.css_tokens.specs.Tokens.{ReadsTo, Reads, classes_of, is_refused, after_mark, bad_place}
 use Rattle.css_tokens.specs.Trees.{words_all, all_formed}
 use Rattle.css_tokens.specs.Values.{value_text, value_words}
 use Rattle.css_tokens.specs.ValueAgain.{value_again}
-use Rattle.css_rules.specs.Contexts.{outside, under_list}
 use Rattle.css_rules.specs.declared.sheet.Declaration.{Declaration}
 use Rattle.selector_types.specs.declared.selector.Selector.{Selector}
-use Rattle.selector_types.specs.Erased.{erased}
 use Rattle.selector_types.specs.Spelling.{colon, list_spelling, list_text}
 use Rattle.selector_types.specs.ReadableSelectors.{is_readable_list}
 use Rattle.css_rules.specs.Components.{is_gap}
-use Rattle.css_rules.specs.Runs.{Run}
-use Rattle.css_rules.specs.Printable.{IsPrintableDeclaration, ArePrintable, begins_solid}
-use Rattle.css_rules.specs.Standing.{Stands, AllStand}
-use Rattle.css_rules.specs.SheetTexts.{runs_text}
-use Rattle.css_rules.specs.SheetAgain.{semicolon, line_feed, value_or_space, importance_again, declaration_again, declarations_again, block_again, run_again, sheet_again}
-use Rattle.css_rules.proofs.CleanTexts.{ListTexts, clean-bad, sheet-clean, sheet-unmarked}
+use Rattle.css_rules.specs.declared.sheet.Item.{Item}
+use Rattle.css_rules.specs.Leaves.{Leaf, OfDeclaration, all_leaves}
+use Rattle.css_rules.specs.Printable.{IsPrintableDeclaration, IsPrintableLeaf, ArePrintable, begins_solid}
+use Rattle.css_rules.specs.Standing.{Stands, LeafStands, AllStand}
+use Rattle.css_rules.specs.SheetTexts.{items_text}
+use Rattle.css_rules.specs.SheetAgain.{semicolon, line_feed, value_or_space, importance_again, declaration_again, declarations_again, braces, item_again, items_again}
+use Rattle.css_rules.proofs.CleanTexts.{ListTexts, clean-bad, items-clean, items-unmarked}
 use Rattle.css_rules.proofs.Heads.{single_of, word}
 use Rattle.css_rules.proofs.ImportantNames.{important-name}
+use Rattle.css_rules.proofs.ItemShapes.{TopCases, again-empty, again-run, by_tops}
 use Rattle.css_rules.proofs.PreludeAgain.{words-cons}
-use Rattle.css_rules.proofs.RulesAgain.{made}
 use Rattle.css_rules.proofs.ValueFacts.{ValueLaws, printed-some}
-use Rattle.css_rules.proofs.SheetSpelled.{text_of, words-append, text-append, text-cons, words-brace, text-brace, text-importance, text-sheet}
-use Rattle.css_rules.proofs.SpellingErased.{spelling-erased}
+use Rattle.css_rules.proofs.SheetSpelled.{text_of, words-append, text-append, text-cons, words-braces, text-braces, text-importance, items-spelled}
 
 -- what is ensured of tokens that are written one after another
 pub record ReadLaws : Type 0 where
@@ -163,61 +161,99 @@ module _ (laws : ReadLaws) where
       (subst P (sym whole) (declaration-reads values d p.0 stands.0 true (text_of others ++ (codes "}" ++ rest))))
       (on-cons (word kinds.Semicolon (codes ";")) others (codes "}" ++ rest) refl (semicolon_mark (text_of others ++ (codes "}" ++ rest))) (declarations-read values e ds p.1 stands.1 rest))
 
-  block-reads : ValueLaws → (d : Declaration) (ds : List Declaration) → AllByRecursion IsPrintableDeclaration (d ∷ ds) → AllByRecursion Stands (d ∷ ds) → (rest : List ℕ) → begins_none white rest ≡ true
-      → ReadsOn (block_again (d ∷ ds) ∷ line_feed ∷ []) rest
-  block-reads values d ds p stands rest white_rest =
-      let inner = declarations_again (d ∷ ds) in
+  -- Items.
+
+  -- a block, with a line feed behind it, reads where what is in it reads before a `}`
+  block-reads : (inside : List Component) (rest : List ℕ) → ((r : List ℕ) → ReadsOn inside (codes "}" ++ r)) → begins_none white rest ≡ true → ReadsOn (braces inside ∷ line_feed ∷ []) rest
+  block-reads inside rest inner white_rest =
       let behind = codes "}" ++ (text_of (line_feed ∷ []) ++ rest) in
       let feed : ReadsOn (line_feed ∷ []) rest = on-cons (word kinds.White (10 ∷ [])) [] rest refl (laws.fed rest white_rest) (on-end rest) in
       let closing : ReadsTo behind (word kinds.Close (codes "}") ∷ words_all (line_feed ∷ [])) rest = (close_mark (text_of (line_feed ∷ []) ++ rest), refl, feed) in
-      let all : ReadsTo (text_of inner ++ behind) (words_all inner ++ word kinds.Close (codes "}") ∷ words_all (line_feed ∷ [])) rest =
-      laws.composes (words_all inner) (word kinds.Close (codes "}") ∷ words_all (line_feed ∷ [])) behind rest (declarations-read values d ds p stands (text_of (line_feed ∷ []) ++ rest)) closing in
-      let opened : ReadsTo (codes "{" ++ (text_of inner ++ behind)) (word kinds.Open (codes "{") ∷ (words_all inner ++ word kinds.Close (codes "}") ∷ words_all (line_feed ∷ []))) rest = (open_mark (text_of inner ++ behind), refl, all) in
-      let whole : text_of (block_again (d ∷ ds) ∷ line_feed ∷ []) ++ rest ≡ codes "{" ++ (text_of inner ++ behind) =
-      ap (λ t. t ++ rest) (text-brace (d ∷ ds) (line_feed ∷ []))
-      ∙ ap (λ t. codes "{" ++ t) (append_assoc (text_of inner) (codes "}" ++ text_of (line_feed ∷ [])) rest ∙ ap (λ t. text_of inner ++ t) (append_assoc (codes "}") (text_of (line_feed ∷ [])) rest)) in
-      let P : List ℕ → Type 0 = λ t. ReadsTo t (words_all (block_again (d ∷ ds) ∷ line_feed ∷ [])) rest in
-      let Q : List Word → Type 0 = λ ws. ReadsTo (codes "{" ++ (text_of inner ++ behind)) ws rest in
-      subst P (sym whole) (subst Q (sym (words-brace (d ∷ ds) (line_feed ∷ []))) opened)
+      let all : ReadsTo (text_of inside ++ behind) (words_all inside ++ word kinds.Close (codes "}") ∷ words_all (line_feed ∷ [])) rest =
+      laws.composes (words_all inside) (word kinds.Close (codes "}") ∷ words_all (line_feed ∷ [])) behind rest (inner (text_of (line_feed ∷ []) ++ rest)) closing in
+      let opened : ReadsTo (codes "{" ++ (text_of inside ++ behind)) (word kinds.Open (codes "{") ∷ (words_all inside ++ word kinds.Close (codes "}") ∷ words_all (line_feed ∷ []))) rest = (open_mark (text_of inside ++ behind), refl, all) in
+      let whole : text_of (braces inside ∷ line_feed ∷ []) ++ rest ≡ codes "{" ++ (text_of inside ++ behind) =
+      ap (λ t. t ++ rest) (text-braces inside (line_feed ∷ []))
+      ∙ ap (λ t. codes "{" ++ t) (append_assoc (text_of inside) (codes "}" ++ text_of (line_feed ∷ [])) rest ∙ ap (λ t. text_of inside ++ t) (append_assoc (codes "}") (text_of (line_feed ∷ [])) rest)) in
+      let P : List ℕ → Type 0 = λ t. ReadsTo t (words_all (braces inside ∷ line_feed ∷ [])) rest in
+      let Q : List Word → Type 0 = λ ws. ReadsTo (codes "{" ++ (text_of inside ++ behind)) ws rest in
+      subst P (sym whole) (subst Q (sym (words-braces inside (line_feed ∷ []))) opened)
 
-  run-reads : ValueLaws → (list : List Selector) (d : Declaration) (ds : List Declaration) → IsTrue (is_readable_list false list) → AllByRecursion IsPrintableDeclaration (d ∷ ds) → AllByRecursion Stands (d ∷ ds)
-      → (rest : List ℕ) → begins_none white rest ≡ true → ReadsOn (list_spelling list ++ block_again (d ∷ ds) ∷ line_feed ∷ []) rest
-  run-reads values list d ds readable p stands rest white_rest =
-      let tail = block_again (d ∷ ds) ∷ line_feed ∷ [] in
-      let inner = text_of (declarations_again (d ∷ ds)) ++ (codes "}" ++ text_of (line_feed ∷ [])) in
-      let whole : text_of tail ++ rest ≡ codes "{" ++ (inner ++ rest) = ap (λ t. t ++ rest) (text-brace (d ∷ ds) (line_feed ∷ [])) in
-      let P : List ℕ → Type 0 = λ t. ReadsTo (text_of (list_spelling list) ++ t) (words_all (list_spelling list)) t in
-      on-append (list_spelling list) tail rest (subst P (sym whole) (laws.listed list (inner ++ rest) readable)) (block-reads values d ds p stands rest white_rest)
+  -- the text of components reads as their words, and it begins with no white space, before this
+  record ReadsAlone (cs : List Component) (rest : List ℕ) : Type 0 where
+    on : ReadsOn cs rest
+    begins : begins_none white (text_of cs ++ rest) ≡ true
 
-  sheet-reads : ValueLaws → (runs : List Run) → ArePrintable runs → AllStand runs → ReadsOn (sheet_again runs) []
-  sheet-reads values [] p stands = on-end []
-  sheet-reads values (run ∷ runs) p stands =
-      let m = made run p.0 in
-      let rest = text_of (sheet_again runs) ++ [] in
-      let P : Run → Type 0 = λ r. AllByRecursion Stands r.declarations → ReadsOn (run_again r) rest in
-      let tail = block_again (m.first ∷ m.more) ∷ line_feed ∷ [] in
-      let Q : List Component → Type 0 = λ front. ReadsOn (front ++ tail) rest in
-      let of_made : P (record { context = under_list (map erased m.list) outside; declarations = m.first ∷ m.more }) = λ standing. subst Q (sym (spelling-erased m.list)) (run-reads values m.list m.first m.more m.readable m.each standing rest (sheet-begins values runs p.1)) in
-      on-append (run_again run) (sheet_again runs) [] (subst P (sym m.is) of_made stands.0) (sheet-reads values runs p.1 stands.1)
-    where
-      sheet-begins : ValueLaws → (rs : List Run) → ArePrintable rs → begins_none white (text_of (sheet_again rs) ++ []) ≡ true
-      sheet-begins values [] p = refl
-      sheet-begins values (r ∷ rs) p =
-          let m = made r p.0 in
-          let Begins : Run → Type 0 = λ q. begins_none white (text_of (run_again q ++ sheet_again rs) ++ []) ≡ true in
-          let tail = block_again (m.first ∷ m.more) ∷ line_feed ∷ [] in
-          let front = list_spelling m.list in
-          subst Begins (sym m.is)
-          (ap (λ (cs : List Component). begins_none white (text_of ((cs ++ tail) ++ sheet_again rs) ++ [])) (spelling-erased m.list)
-          ∙ ap (λ t. begins_none white (t ++ [])) (text-append (front ++ tail) (sheet_again rs) ∙ ap (λ t. t ++ text_of (sheet_again rs)) (text-append front tail))
-          ∙ ap (begins_none white) (append_assoc (list_text m.list ++ text_of tail) (text_of (sheet_again rs)) [] ∙ append_assoc (list_text m.list) (text_of tail) (text_of (sheet_again rs) ++ []))
-          ∙ laws.begins m.list (text_of tail ++ (text_of (sheet_again rs) ++ [])) m.readable)
+  -- and so before all that begins with no white space
+  abbrev ReadsItem : List Component → Type 0
+  ReadsItem cs = (rest : List ℕ) → begins_none white rest ≡ true → ReadsAlone cs rest
 
-  -- the text of a printed sheet reads as the words of its components
-  pub text-reads : ValueLaws → (runs : List Run) → ArePrintable runs → AllStand runs → Reads (runs_text runs) (words_all (sheet_again runs))
-  text-reads values runs p stands =
-      let text = runs_text runs in
-      let P : List ℕ → Type 0 = λ t. ReadsTo t (words_all (sheet_again runs)) [] in
-      let behind : after_mark text ≡ text = ap (λ n. drop n text) (sheet-unmarked laws.texts runs p) in
-      let reads : P text = subst P (append-nil (text_of (sheet_again runs)) ∙ text-sheet values runs p) (sheet-reads values runs p stands) in
-      (ap bad_place behind ∙ clean-bad text (sheet-clean laws.texts runs p), subst P (sym behind) reads)
+  -- a rule reads where its list does before a block, and its block does
+  braced-reads : (list : List Selector) (inside : List Component) → IsTrue (is_readable_list false list) → ((r : List ℕ) → ReadsOn inside (codes "}" ++ r)) → ReadsItem (list_spelling list ++ braces inside ∷ line_feed ∷ [])
+  braced-reads list inside readable inner rest white_rest =
+      let front = list_spelling list in
+      let tail = braces inside ∷ line_feed ∷ [] in
+      let behind = text_of inside ++ (codes "}" ++ text_of (line_feed ∷ [])) in
+      let whole : text_of tail ++ rest ≡ codes "{" ++ (behind ++ rest) = ap (λ t. t ++ rest) (text-braces inside (line_feed ∷ [])) in
+      let P : List ℕ → Type 0 = λ t. ReadsTo (text_of front ++ t) (words_all front) t in
+      record {
+        on = on-append front tail rest (subst P (sym whole) (laws.listed list (behind ++ rest) readable)) (block-reads inside rest inner white_rest);
+        begins =
+            ap (λ t. begins_none white (t ++ rest)) (text-append front tail)
+            ∙ ap (begins_none white) (append_assoc (list_text list) (text_of tail) rest)
+            ∙ laws.begins list (text_of tail ++ rest) readable;
+      }
+
+  append-reads : (xs ys : List Component) → ReadsItem xs → ReadsItem ys → ReadsItem (xs ++ ys)
+  append-reads xs ys first second rest white_rest =
+      let b = second rest white_rest in
+      let a = first (text_of ys ++ rest) b.begins in
+      record {
+        on = on-append xs ys rest a.on b.on;
+        begins = ap (λ t. begins_none white (t ++ rest)) (text-append xs ys) ∙ ap (begins_none white) (append_assoc (text_of xs) (text_of ys) rest) ∙ a.begins;
+      }
+
+  nothing-reads : ReadsItem []
+  nothing-reads rest white_rest = record { on = on-end rest; begins = white_rest }
+
+  -- a leaf that is printable and stands
+  abbrev IsReady : Leaf → Type 0
+  IsReady leaf = IsPrintableLeaf leaf × LeafStands leaf
+
+  each-printable : (ds : List Declaration) → AllByRecursion (λ d. IsReady (OfDeclaration d)) ds → AllByRecursion IsPrintableDeclaration ds
+  each-printable [] each = tt
+  each-printable (d ∷ ds) each = (each.0.0, each-printable ds each.1)
+
+  each-stands : (ds : List Declaration) → AllByRecursion (λ d. IsReady (OfDeclaration d)) ds → AllByRecursion Stands ds
+  each-stands [] each = tt
+  each-stands (d ∷ ds) each = (each.0.1, each-stands ds each.1)
+
+  each-ready : (ls : List Leaf) → AllByRecursion IsPrintableLeaf ls → AllByRecursion LeafStands ls → AllByRecursion IsReady ls
+  each-ready [] p stands = tt
+  each-ready (l ∷ ls) p stands = ((p.0, stands.0), each-ready ls p.1 stands.1)
+
+  abbrev ItemReads : Item → Type 0
+  ItemReads x = ReadsItem (item_again x)
+
+  reads-cases : ValueLaws → TopCases IsReady ItemReads
+  reads-cases values = record {
+    empty = λ s none. subst ReadsItem (sym (again-empty s none)) nothing-reads;
+    rule = λ s run fine each.
+        let ds = run.first ∷ run.more in
+        subst ReadsItem (sym (again-run s run))
+        (braced-reads s.selectors (declarations_again ds) fine.0.readable (declarations-read values run.first run.more (each-printable ds each) (each-stands ds each)));
+  }
+
+  all-read : (xs : List Item) → AllByRecursion ItemReads xs → ReadsItem (items_again xs)
+  all-read [] each = nothing-reads
+  all-read (x ∷ xs) each = append-reads (item_again x) (items_again xs) each.0 (all-read xs each.1)
+
+  -- the text of printed items reads as the words of their components
+  pub items-read-on : ValueLaws → (xs : List Item) → ArePrintable xs → AllStand xs → Reads (items_text xs) (words_all (items_again xs))
+  items-read-on values xs p stands =
+      let text = items_text xs in
+      let all = by_tops IsReady ItemReads (reads-cases values) xs p.tops (each-ready (all_leaves xs) p.fine stands) in
+      let P : List ℕ → Type 0 = λ t. ReadsTo t (words_all (items_again xs)) [] in
+      let behind : after_mark text ≡ text = ap (λ n. drop n text) (items-unmarked laws.texts xs p) in
+      let reads : P text = subst P (append-nil (text_of (items_again xs)) ∙ items-spelled values xs p) (all-read xs all [] refl).on in
+      (ap bad_place behind ∙ clean-bad text (items-clean laws.texts xs p), subst P (sym behind) reads)

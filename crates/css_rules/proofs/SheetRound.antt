@@ -1,5 +1,5 @@
 -- A printed sheet is read as that sheet.
-use Rattle.std.proofs.Common.{◌≡◌, ℕ, List, [], ◌∷◌, ◌++◌, map, true, ◌&&◌, ◌||◌, not, Some, None, option_map, refl, ◌∙◌, ap, IsTrue, codes}
+use Rattle.std.proofs.Common.{◌≡◌, ℕ, List, [], ◌∷◌, ◌++◌, map, true, ◌&&◌, ◌||◌, not, Some, None, option_map, refl, ◌∙◌, ap, codes}
 use Rattle.std.specs.List.{AllByRecursion}
 use Rattle.std.proofs.lemmas.List.{append-nil}
 use Rattle.css_tokens.specs.NameText.{name_text}
@@ -10,7 +10,8 @@ use Rattle.css_rules.specs.Cuts.{trimmed_start}
 use Rattle.css_rules.specs.Declarations.{begins_custom}
 use Rattle.css_rules.specs.ReadAll.{joined, read_all}
 use Rattle.css_rules.specs.Sheets.{declarations_of, ends_item, item_of}
-use Rattle.css_rules.specs.Runs.{bare_declaration}
+use Rattle.css_rules.specs.BareItems.{bared}
+use Rattle.css_rules.specs.Statements.{BareDeclaration}
 use Rattle.css_rules.specs.Printable.{IsPrintableDeclaration}
 use Rattle.css_rules.specs.SheetAgain.{semicolon, declaration_again, more_again, declarations_again}
 use Rattle.css_rules.proofs.Heads.{word}
@@ -43,7 +44,11 @@ declarations-again laws names d (e ∷ ds) printable =
     ∙ ap (λ o. joined o (declarations_of (declarations_again (e ∷ ds)))) (item-again laws d (Some semicolon) printable.0 same (braces-Single (piece_of (word kinds.Semicolon (codes ";")))))
     ∙ ap (option_map (λ more. read_again d ∷ more)) (declarations-again laws names e ds printable.1)
 
--- which say what they were printed from
-pub bares-again : ValueLaws → (ds : List Declaration) → AllByRecursion IsPrintableDeclaration ds → map bare_declaration (map read_again ds) ≡ map bare_declaration ds
-bares-again laws [] p = refl
-bares-again laws (d ∷ ds) p = ap (λ b. b ∷ map bare_declaration (map read_again ds)) (bare-again laws d p.0) ∙ ap (λ bs. bare_declaration d ∷ bs) (bares-again laws ds p.1)
+-- the declaration of what is left of it without its place
+abbrev placed : BareDeclaration → Declaration
+placed b = record { name = b.name; value = b.value; important = b.important; at = 0 }
+
+-- which are the same, places aside
+pub bareds-again : ValueLaws → (ds : List Declaration) → AllByRecursion IsPrintableDeclaration ds → map bared (map read_again ds) ≡ map bared ds
+bareds-again laws [] p = refl
+bareds-again laws (d ∷ ds) p = ap (λ b. placed b ∷ map bared (map read_again ds)) (bare-again laws d p.0) ∙ ap (λ (es : List Declaration). bared d ∷ es) (bareds-again laws ds p.1)

@@ -1,4 +1,4 @@
--- The components of a printed sheet spell its text, and are well formed.
+-- The components of printed items spell their text, and are well formed.
 use Rattle.std.proofs.Common.{◌≡◌, ℕ, List, [], ◌∷◌, ◌++◌, map, Bool, true, false, ◌&&◌, not, refl, sym, ◌∙◌, ap, IsTrue, codes}
 use Rattle.std.specs.List.{AllByRecursion}
 use Rattle.std.proofs.lemmas.List.{append_assoc, map-append}
@@ -13,12 +13,13 @@ use Rattle.css_tokens.specs.ValueAgain.{value_again}
 use Rattle.css_rules.specs.declared.sheet.Declaration.{Declaration}
 use Rattle.selector_types.specs.declared.selector.Selector.{Selector}
 use Rattle.selector_types.specs.Spelling.{colon, list_spelling, list_text}
-use Rattle.css_rules.specs.Runs.{Run}
+use Rattle.css_rules.specs.declared.sheet.Item.{Item}
 use Rattle.css_rules.specs.Components.{is_gap}
-use Rattle.css_rules.specs.Printable.{IsPrintable, IsPrintableDeclaration, ArePrintable, begins_solid}
-use Rattle.css_rules.specs.SheetTexts.{printed_value, importance_text, declaration_text, more_declarations, declarations_text, innermost, run_text, runs_text}
-use Rattle.css_rules.specs.SheetAgain.{line_feed, value_or_space, importance_again, declaration_again, more_again, declarations_again, block_again, run_again, sheet_again}
+use Rattle.css_rules.specs.Printable.{IsPrintableDeclaration, IsPrintableLeaf, ArePrintable, begins_solid}
+use Rattle.css_rules.specs.SheetTexts.{printed_value, importance_text, declaration_text, more_declarations, declarations_text, braced_text, printed_item, items_text}
+use Rattle.css_rules.specs.SheetAgain.{line_feed, value_or_space, importance_again, declaration_again, more_again, declarations_again, braces, item_again, items_again}
 use Rattle.css_rules.proofs.Heads.{piece_of, single_of, word}
+use Rattle.css_rules.proofs.ItemShapes.{TopCases, again-empty, again-run, by_tops, text-empty, text-run}
 use Rattle.css_rules.proofs.PreludeAgain.{words-cons}
 use Rattle.css_rules.proofs.ValueFacts.{ValueLaws, printed-some}
 use Rattle.css_rules.proofs.RulesAgain.{brace_of}
@@ -37,18 +38,17 @@ pub text-cons : (w : Word) (cs : List Component) → text_of (single_of w ∷ cs
 text-cons w cs = ap spelled (words-cons w cs)
 
 -- the words of a block in its place
-pub words-brace : (ds : List Declaration) (cs : List Component) → words_all (block_again ds ∷ cs) ≡ word kinds.Open (codes "{") ∷ (words_all (declarations_again ds) ++ word kinds.Close (codes "}") ∷ words_all cs)
-words-brace ds cs =
-    let items = declarations_again ds in
+pub words-braces : (inside cs : List Component) → words_all (braces inside ∷ cs) ≡ word kinds.Open (codes "{") ∷ (words_all inside ++ word kinds.Close (codes "}") ∷ words_all cs)
+words-braces inside cs =
     let close = closing (record { kind = kinds.Open; text = codes "{"; at = 0 }) 0 in
-    ap (λ (ps : List Piece). map word_of (ps ++ pieces_all cs)) (pieces_of-Block (brace_of ds))
-    ∙ ap (λ (ps : List Piece). word kinds.Open (codes "{") ∷ map word_of ps) (append_assoc (pieces_all items) (close ∷ []) (pieces_all cs))
-    ∙ ap (λ (ws : List Word). word kinds.Open (codes "{") ∷ ws) (map-append word_of (pieces_all items) (close ∷ pieces_all cs))
+    ap (λ (ps : List Piece). map word_of (ps ++ pieces_all cs)) (pieces_of-Block (brace_of inside))
+    ∙ ap (λ (ps : List Piece). word kinds.Open (codes "{") ∷ map word_of ps) (append_assoc (pieces_all inside) (close ∷ []) (pieces_all cs))
+    ∙ ap (λ (ws : List Word). word kinds.Open (codes "{") ∷ ws) (map-append word_of (pieces_all inside) (close ∷ pieces_all cs))
 
-pub text-brace : (ds : List Declaration) (cs : List Component) → text_of (block_again ds ∷ cs) ≡ codes "{" ++ (text_of (declarations_again ds) ++ (codes "}" ++ text_of cs))
-text-brace ds cs =
-    ap spelled (words-brace ds cs)
-    ∙ ap (λ t. codes "{" ++ t) (flat_map-append (λ (w : Word). w.text) (words_all (declarations_again ds)) (word kinds.Close (codes "}") ∷ words_all cs))
+pub text-braces : (inside cs : List Component) → text_of (braces inside ∷ cs) ≡ codes "{" ++ (text_of inside ++ (codes "}" ++ text_of cs))
+text-braces inside cs =
+    ap spelled (words-braces inside cs)
+    ∙ ap (λ t. codes "{" ++ t) (flat_map-append (λ (w : Word). w.text) (words_all inside) (word kinds.Close (codes "}") ∷ words_all cs))
 
 not_true : (b : Bool) → not b ≡ true → b ≡ false
 not_true true e = sym e
@@ -89,26 +89,36 @@ text-declarations laws (d ∷ ds) p =
     ∙ ap (λ t. t ++ text_of (more_again ds)) (text-declaration laws d p.0)
     ∙ ap (λ t. declaration_text d ++ t) (text-more laws ds p.1)
 
--- what is ensured of printed selectors
-abbrev pub ListFormed : Type 0
-ListFormed = (ss : List Selector) → IsTrue (all_formed (list_spelling ss))
+-- Items.
 
-pub text-run : ValueLaws → (run : Run) → IsPrintable run → text_of (run_again run) ≡ run_text run
-text-run laws run p =
-    let list = list_spelling (innermost run.context.chain) in
-    text-append list (block_again run.declarations ∷ line_feed ∷ [])
-    ∙ ap (λ t. list_text (innermost run.context.chain) ++ t)
-    (text-brace run.declarations (line_feed ∷ [])
-    ∙ ap (λ t. codes "{" ++ (t ++ (codes "}" ++ text_of (line_feed ∷ [])))) (text-declarations laws run.declarations p.each)
-    ∙ ap (λ t. codes "{" ++ (declarations_text run.declarations ++ (codes "}" ++ t))) (text-cons (word kinds.White (10 ∷ [])) []))
+abbrev IsSpelled : Item → Type 0
+IsSpelled x = text_of (item_again x) ≡ (printed_item x).among
 
--- the components of a printed sheet spell its text
-pub text-sheet : ValueLaws → (runs : List Run) → ArePrintable runs → text_of (sheet_again runs) ≡ runs_text runs
-text-sheet laws [] p = refl
-text-sheet laws (run ∷ runs) p =
-    text-append (run_again run) (sheet_again runs)
-    ∙ ap (λ t. t ++ text_of (sheet_again runs)) (text-run laws run p.0)
-    ∙ ap (λ t. run_text run ++ t) (text-sheet laws runs p.1)
+rule-spelled : ValueLaws → (list : List Selector) (ds : List Declaration) → AllByRecursion IsPrintableDeclaration ds
+    → text_of (list_spelling list ++ braces (declarations_again ds) ∷ line_feed ∷ []) ≡ braced_text list (declarations_text ds)
+rule-spelled laws list ds p =
+    text-append (list_spelling list) (braces (declarations_again ds) ∷ line_feed ∷ [])
+    ∙ ap (λ t. list_text list ++ t)
+    (text-braces (declarations_again ds) (line_feed ∷ [])
+    ∙ ap (λ t. codes "{" ++ (t ++ (codes "}" ++ text_of (line_feed ∷ [])))) (text-declarations laws ds p)
+    ∙ ap (λ t. codes "{" ++ (declarations_text ds ++ (codes "}" ++ t))) (text-cons (word kinds.White (10 ∷ [])) []))
+
+spelled-cases : ValueLaws → TopCases IsPrintableLeaf IsSpelled
+spelled-cases laws = record {
+  empty = λ s none. ap text_of (again-empty s none) ∙ sym (text-empty s none);
+  rule = λ s run fine each. ap text_of (again-run s run) ∙ rule-spelled laws s.selectors (run.first ∷ run.more) each ∙ sym (text-run s run);
+}
+
+all-spelled : (xs : List Item) → AllByRecursion IsSpelled xs → text_of (items_again xs) ≡ items_text xs
+all-spelled [] each = refl
+all-spelled (x ∷ xs) each =
+    text-append (item_again x) (items_again xs)
+    ∙ ap (λ t. t ++ text_of (items_again xs)) each.0
+    ∙ ap (λ t. (printed_item x).among ++ t) (all-spelled xs each.1)
+
+-- the components of printed items spell their text
+pub items-spelled : ValueLaws → (xs : List Item) → ArePrintable xs → text_of (items_again xs) ≡ items_text xs
+items-spelled laws xs p = all-spelled xs (by_tops IsPrintableLeaf IsSpelled (spelled-cases laws) xs p.tops p.fine)
 
 -- Well formed.
 
@@ -148,13 +158,29 @@ formed-declarations : ValueLaws → (ds : List Declaration) → AllByRecursion I
 formed-declarations laws [] p = refl
 formed-declarations laws (d ∷ ds) p = formed-append (declaration_again d) (more_again ds) (formed-declaration laws d p.0) (formed-more laws ds p.1)
 
+-- what is ensured of printed selectors
+abbrev pub ListFormed : Type 0
+ListFormed = (ss : List Selector) → IsTrue (all_formed (list_spelling ss))
+
+abbrev IsFormed : Item → Type 0
+IsFormed x = all_formed (item_again x) ≡ true
+
+formed-cases : ValueLaws → ListFormed → TopCases IsPrintableLeaf IsFormed
+formed-cases laws lists = record {
+  empty = λ s none. ap all_formed (again-empty s none);
+  rule = λ s run fine each.
+      let ds = run.first ∷ run.more in
+      let block = braces (declarations_again ds) in
+      ap all_formed (again-run s run)
+      ∙ formed-append (list_spelling s.selectors) (block ∷ line_feed ∷ []) (lists s.selectors)
+      (ap (λ b. b && all_formed (line_feed ∷ [])) (is_formed-Block (brace_of (declarations_again ds)) ∙ formed-declarations laws ds each)
+      ∙ formed-one (word kinds.White (10 ∷ [])) [] (is_formed-Single (piece_of (word kinds.White (10 ∷ [])))) refl);
+}
+
+all-formed : (xs : List Item) → AllByRecursion IsFormed xs → all_formed (items_again xs) ≡ true
+all-formed [] each = refl
+all-formed (x ∷ xs) each = formed-append (item_again x) (items_again xs) each.0 (all-formed xs each.1)
+
 -- they are well formed
-pub formed-sheet : ValueLaws → ListFormed → (runs : List Run) → ArePrintable runs → all_formed (sheet_again runs) ≡ true
-formed-sheet laws lists [] p = refl
-formed-sheet laws lists (run ∷ runs) p =
-    let list = list_spelling (innermost run.context.chain) in
-    formed-append (run_again run) (sheet_again runs)
-    (formed-append list (block_again run.declarations ∷ line_feed ∷ []) (lists (innermost run.context.chain))
-    (ap (λ b. b && all_formed (line_feed ∷ [])) (is_formed-Block (brace_of run.declarations) ∙ formed-declarations laws run.declarations p.0.each)
-    ∙ formed-one (word kinds.White (10 ∷ [])) [] (is_formed-Single (piece_of (word kinds.White (10 ∷ [])))) refl))
-    (formed-sheet laws lists runs p.1)
+pub items-formed : ValueLaws → ListFormed → (xs : List Item) → ArePrintable xs → all_formed (items_again xs) ≡ true
+items-formed laws lists xs p = all-formed xs (by_tops IsPrintableLeaf IsFormed (formed-cases laws lists) xs p.tops p.fine)

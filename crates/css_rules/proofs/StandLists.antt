@@ -1,7 +1,6 @@
 -- Lists of components whose tokens are read one after another in a text.
 use Rattle.std.proofs.Common.{◌≡◌, ℕ, zero, suc, List, [], ◌∷◌, ◌++◌, map, true, refl, sym, ◌∙◌, ap, subst, append_assoc, length, take, drop, codes, Option, Some, None, inl, inr}
 use Rattle.std.specs.Option.{option_map}
-use Rattle.std.specs.Str.{str_to_ascii_lowercase}
 use Rattle.std.proofs.lemmas.List.{map-append, append-nil}
 use Rattle.std.proofs.lemmas.List.Concat.{flat_map-append}
 use Rattle.css_tokens.specs.declared.component.Component.{Component}
@@ -12,7 +11,7 @@ use Rattle.css_tokens.specs.declared.kind.Kind.{Kind}
 use Rattle.css_tokens.specs.Again.{StaysFirst, is_end_kind, is_stop}
 use Rattle.css_tokens.specs.Piece.{Piece, Word, word_of, spelled}
 use Rattle.css_tokens.specs.Tokens.{First, ReadsTo, classes_of, first_front, word}
-use Rattle.css_tokens.specs.Trees.{is_text, closing, pieces_of, pieces_all, pieces_of-Single, pieces_of-Block, words_all}
+use Rattle.css_tokens.specs.Trees.{closing, pieces_of, pieces_all, pieces_of-Single, pieces_of-Block, words_all}
 use Rattle.css_tokens.specs.Values.{is_gap as is_gap_word}
 use Rattle.css_rules.specs.Components.{inside, layer_items}
 use Rattle.css_rules.proofs.Heads.{inside-Block}

@@ -1,5 +1,5 @@
 -- Each value of a sheet stands in the sheet's text before a stop.
-use Rattle.std.proofs.Common.{◌≡◌, ℕ, List, [], ◌∷◌, ◌++◌, Bool, true, false, ◌&&◌, ◌||◌, not, refl, sym, ◌∙◌, ap, subst, Option, Some, None, flat_map, map, inl, inr}
+use Rattle.std.proofs.Common.{◌≡◌, ℕ, List, [], ◌∷◌, ◌++◌, Bool, true, false, ◌&&◌, ◌||◌, not, refl, sym, ◌∙◌, ap, subst, Option, Some, None, inl, inr}
 use Rattle.std.specs.Prelude.{if◌then◌else◌}
 use Rattle.std.specs.List.{AllByRecursion}
 use Rattle.std.proofs.lemmas.List.{append-nil}
@@ -9,21 +9,19 @@ use Rattle.css_tokens.specs.Again.{is_stop}
 use Rattle.css_tokens.specs.Piece.{Piece, spelled}
 use Rattle.css_tokens.specs.Tokens.{Reads, ReadsTo, classes_of, after_mark}
 use Rattle.css_tokens.specs.Trees.{words_all}
-use Rattle.css_rules.specs.Contexts.{outside, under_list}
 use Rattle.css_rules.specs.declared.sheet.Declaration.{Declaration}
 use Rattle.css_rules.specs.declared.sheet.Item.{Item}
 use Rattle.css_rules.specs.declared.sheet.Item as item
 use Rattle.css_rules.specs.declared.sheet.Style as style
 use Rattle.css_rules.specs.declared.sheet.Sheet.{Sheet}
-use Rattle.selector_types.specs.declared.selector.Selector.{Selector}
-use Rattle.selector_types.specs.Erased.{erased}
 use Rattle.css_rules.specs.Components.{head, inside, is_ident, is_colon, is_bang, is_semicolon, is_braces, is_custom, name_of}
 use Rattle.css_rules.specs.Cuts.{Cut, cuts, cuts_at, trimmed, trimmed_start}
 use Rattle.css_rules.specs.Declarations.{property_name, after_colon, may_be_value, is_important, value_of, declared, declared_after, declaration_of, begins_custom}
-use Rattle.css_rules.specs.Runs.{Run, runs_within, runs_of, runs_within-Plain, runs_within-Style}
+use Rattle.css_rules.specs.Leaves.{all_leaves, leaves}
 use Rattle.css_rules.specs.Sheets.{ends_rule, ends_item, item_of, declarations_of, run_of, rule_of, sheet_of}
-use Rattle.css_rules.specs.Standing.{Stands, AllStand}
+use Rattle.css_rules.specs.Standing.{Stands, LeafStands, AllStand}
 use Rattle.css_rules.proofs.FromSourceDeclarations.{each-append}
+use Rattle.css_rules.proofs.ItemShapes.{leaves-hold, only-leaves}
 use Rattle.css_rules.proofs.StandCuts.{JoinsAt, Joins, joins-cuts, stands-start, stands-trimmed, MarkStands, FrontStands, ends_some_item, item-fronts, marks-stand, bang-stop}
 use Rattle.css_rules.proofs.ReadAllLemmas.{read_all-holds}
 use Rattle.css_rules.proofs.RuleShapes.{item-no_block, item-shape, rule-shape, sheet-items}
@@ -136,48 +134,28 @@ module _ (laws : ReadingLaws) where
 
   -- Rules.
 
-  abbrev RunStands : Run → Type 0
-  RunStands run = AllByRecursion Stands run.declarations
+  style-stands : (s : style.Style) (ds : List Declaration) → s.items ≡ run_of ds → AllByRecursion Stands ds → AllStand (item.Style s ∷ [])
+  style-stands s ds is each = subst (AllByRecursion LeafStands) (sym (only-leaves s ds is)) (leaves-hold LeafStands s.selectors ds tt each)
 
-  abbrev at_top : Item → List Run
-  at_top i = runs_within i outside
-
-  items-stand : (list : List Selector) (ds : List Declaration) → AllByRecursion Stands ds → AllStand (flat_map (λ i. runs_within i (under_list list outside)) (run_of ds))
-  items-stand list [] each = tt
-  items-stand list (d ∷ ds) each =
-      subst (λ (runs : List Run). AllStand runs)
-      (sym (append-nil (runs_within (item.Plain (d ∷ ds)) (under_list list outside)) ∙ runs_within-Plain (d ∷ ds) (under_list list outside)))
-      (each, tt)
-
-  style-stands : (s : style.Style) (ds : List Declaration) → s.items ≡ run_of ds → AllByRecursion Stands ds → AllStand (flat_map at_top (item.Style s ∷ []))
-  style-stands s ds is each =
-      let list = map erased s.selectors in
-      subst (λ (runs : List Run). AllStand runs)
-      (sym (append-nil (at_top (item.Style s)) ∙ runs_within-Style s outside ∙ ap (λ (items : List Item). flat_map (λ i. runs_within i (under_list list outside)) items) is))
-      (items-stand list ds each)
-
-  abbrev TopStands : List Item → Type 0
-  TopStands items = AllStand (flat_map at_top items)
-
-  both-stand : (xs ys : List Item) → TopStands xs → TopStands ys → TopStands (xs ++ ys)
-  both-stand xs ys h k = subst (λ (runs : List Run). AllStand runs) (sym (flat_map-append at_top xs ys)) (each-append RunStands (flat_map at_top xs) (flat_map at_top ys) h k)
+  both-stand : (xs ys : List Item) → AllStand xs → AllStand ys → AllStand (xs ++ ys)
+  both-stand xs ys h k = subst (AllByRecursion LeafStands) (sym (flat_map-append leaves xs ys)) (each-append LeafStands (all_leaves xs) (all_leaves ys) h k)
 
   abbrev CutStands : Cut → Type 0
   CutStands cut = MarkStands cut.mark
 
-  rule-stands : (cut : Cut) (items : List Item) → CutStands cut → rule_of cut ≡ Some items → TopStands items
+  rule-stands : (cut : Cut) (items : List Item) → CutStands cut → rule_of cut ≡ Some items → AllStand items
   rule-stands cut items stands e = elim (rule-shape cut items e) [
-    | inl none ↦ subst TopStands (sym none) tt
+    | inl none ↦ subst AllStand (sym none) tt
     | inr s ↦
         let before = subst (λ (o : Option Component). MarkStands o) s.mark stands in
-        subst TopStands (sym s.is)
+        subst AllStand (sym s.is)
         (style-stands (record { selectors = s.list; items = run_of s.ds; at = s.at }) s.ds refl (block-stands (inside s.block) s.ds (stands-inside laws s.block before.0 before.1) s.inner))
   ]
 
-  pub sheet-stands : (text : List ℕ) (cs : List Component) (sheet : Sheet) → Reads text (words_all cs) → sheet_of cs ≡ Some sheet → AllStand (runs_of sheet)
+  pub sheet-stands : (text : List ℕ) (cs : List Component) (sheet : Sheet) → Reads text (words_all cs) → sheet_of cs ≡ Some sheet → AllStand sheet.items
   sheet-stands text cs sheet reads e =
       let whole : StandsAt cs [] = record { reads = subst (λ (t : List ℕ). ReadsTo t (words_all cs) []) (text-spelled (after_mark text) (words_all cs) [] reads.1) reads.1 } in
       let anything : Component → Bool = λ c. true in
-      read_all-holds TopStands CutStands rule_of tt both-stand rule-stands (cuts ends_rule cs)
+      read_all-holds AllStand CutStands rule_of tt both-stand rule-stands (cuts ends_rule cs)
       (marks-stand laws anything (cuts ends_rule cs) cs [] (joins-cuts anything ends_rule (λ b c e. refl) [] cs) whole)
       sheet.items (sheet-items cs sheet e)

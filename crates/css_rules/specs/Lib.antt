@@ -8,12 +8,11 @@ pub mod SheetBuilding
 pub mod SelectorFaults
 pub mod Erased
 pub mod Contexts
-pub mod Runs
-pub mod BareRules
 pub mod ItemFold
 pub mod ItemInduction
 pub mod Statements
-pub mod RunStatements
+pub mod BareItems
+pub mod Leaves
 pub mod SheetTexts
 pub mod SheetAgain
 pub mod Printable

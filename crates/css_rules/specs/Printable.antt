@@ -1,21 +1,20 @@
--- Which runs of declarations print as a text that reads as them again (CSS Syntax 3, section 10).
-use Rattle.std.specs.Prelude.{List, [], ◌∷◌, map, Bool, true, false, not, ◌≡◌}
+-- Which items print as a text that reads as them again (CSS Syntax 3, section 10).
+use Rattle.std.specs.Prelude.{List, [], ◌∷◌, Bool, true, false, not, ◌≡◌}
 use Rattle.std.specs.List.{list_all, list_any, AllByRecursion}
 use Rattle.css_tokens.specs.declared.component.Component.{Component}
 use Rattle.css_tokens.specs.Trees.{all_formed, words_all}
 use Rattle.css_tokens.specs.Names.{is_name}
 use Rattle.css_rules.specs.declared.sheet.Declaration.{Declaration}
+use Rattle.css_rules.specs.declared.sheet.Item.{Item}
 use Rattle.selector_types.specs.declared.selector.Selector.{Selector}
-use Rattle.selector_types.specs.Erased.{erased}
 use Rattle.selector_types.specs.ReadableSelectors.{is_readable_list, is_spelled, is_writable_list}
 use Rattle.selector_types.specs.Spelling.{list_spelling}
 use Rattle.css_rules.specs.Components.{is_bang, is_semicolon, is_custom, is_gap}
 use Rattle.css_rules.specs.Declarations.{property_name, may_be_value}
+use Rattle.css_rules.specs.Leaves.{Leaf, OfDeclaration, OfList, IsTop, all_leaves}
 use Rattle.css_rules.specs.Refusals.{has_waiting}
 use Rattle.css_rules.specs.Sheets.{is_unbuilt}
-use Rattle.css_rules.specs.Runs.{Run, runs_of}
 use Rattle.css_rules.specs.declared.sheet.Sheet.{Sheet}
-use Rattle.css_rules.specs.Contexts.{outside, under_list}
 
 -- does neither white space nor a comment stand in front?
 abbrev pub begins_solid : List Component → Bool
@@ -34,20 +33,26 @@ pub record IsPrintableDeclaration (d : Declaration) : Type 0 where
   pub formed : all_formed d.value ≡ true
   pub spelled : list_all is_spelled (words_all d.value) ≡ true
 
--- a run of a rule that is not nested, whose selectors have a spelling in which nothing waits for a later stage, with a declaration at least, and each declaration so
-pub record IsPrintable (run : Run) : Type 0 where
-  pub selectors : (list : List Selector) × (run.context ≡ under_list (map erased list) outside) × (is_readable_list false list ≡ true) × (has_waiting (list_spelling list) ≡ false)
-  pub some : (first : Declaration) × (more : List Declaration) × (run.declarations ≡ first ∷ more)
-  pub each : AllByRecursion IsPrintableDeclaration run.declarations
+-- a selector list whose spelling reads as it again: it has one, in which nothing waits for a later stage
+pub record IsPrintableList (list : List Selector) : Type 0 where
+  pub readable : is_readable_list false list ≡ true
+  pub built : has_waiting (list_spelling list) ≡ false
 
--- Is all kept of each selector round the run? Of a foreign function nothing is, and of the flag of an attribute selector only that it is there.
-abbrev pub is_whole : Run → Bool
-is_whole run = list_all is_writable_list run.context.chain
+-- a declaration or a selector list that reads as it again
+abbrev pub IsPrintableLeaf : Leaf → Type 0
+IsPrintableLeaf (OfDeclaration d) = IsPrintableDeclaration d
+IsPrintableLeaf (OfList list) = IsPrintableList list
 
--- the same of each run of a sheet
+-- items that read as they again: each may stand at the top of a sheet, and all that is printed of them reads as it again
+pub record ArePrintable (items : List Item) : Type 0 where
+  pub tops : AllByRecursion IsTop items
+  pub fine : AllByRecursion IsPrintableLeaf (all_leaves items)
+
+-- Is all kept of a selector list? Of a foreign function nothing is, and of the flag of an attribute selector only that it is there.
+abbrev pub is_whole : Leaf → Bool
+is_whole (OfDeclaration d) = true
+is_whole (OfList list) = is_writable_list list
+
+-- is all kept of each selector list of a sheet that is printed?
 abbrev pub all_whole : Sheet → Bool
-all_whole sheet = list_all is_whole (runs_of sheet)
-
--- each of the runs is so
-abbrev pub ArePrintable : List Run → Type 0
-ArePrintable runs = AllByRecursion IsPrintable runs
+all_whole sheet = list_all is_whole (all_leaves sheet.items)

@@ -6,9 +6,8 @@ use Rattle.css_tokens.specs.declared.component.Component.{Component}
 use Rattle.css_tokens.specs.declared.component.Component as components
 use Rattle.selector_types.specs.declared.selector.Selector.{Selector}
 use Rattle.selector_types.specs.Samples.{Sample, block, delim, one_at, token, typed}
-use Rattle.css_rules.specs.Contexts.{outside, under_list}
 use Rattle.css_rules.specs.declared.sheet.Declaration.{Declaration}
-use Rattle.css_rules.specs.Runs.{BareDeclaration, BareRun}
+use Rattle.css_rules.specs.declared.sheet.Item.{Item, Style, Plain}
 
 -- Texts.
 
@@ -56,10 +55,16 @@ unmarked at name value = record { name = codes name; value = value; important = 
 abbrev pub marked : ℕ → String → List Component → Declaration
 marked at name value = record { name = codes name; value = value; important = true; at = at }
 
--- a declaration without its place that is not important
-abbrev pub bare : String → String → BareDeclaration
-bare name value = record { name = codes name; value = components.Single (record { kind = kinds.Ident; text = codes value; at = 0 }) ∷ []; important = false }
+-- Items with each place at 0.
 
--- the declarations of a rule with this selector list
-abbrev pub run : List Selector → List BareDeclaration → BareRun
-run list ds = record { context = under_list list outside; declarations = ds }
+-- a declaration whose value is one Ident and that is not important
+abbrev pub plain : String → String → Declaration
+plain name value = unmarked 0 name (components.Single (record { kind = kinds.Ident; text = codes value; at = 0 }) ∷ [])
+
+-- a style rule with this selector list and these declarations
+abbrev pub rule : List Selector → List Declaration → Item
+rule list ds = Style (record { selectors = list; items = Plain ds ∷ []; at = 0 })
+
+-- a style rule with this selector list and nothing in it
+abbrev pub empty_rule : List Selector → Item
+empty_rule list = Style (record { selectors = list; items = []; at = 0 })

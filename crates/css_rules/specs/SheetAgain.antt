@@ -1,12 +1,12 @@
--- The components that the printed text of a sheet is made of, each at the place 0 (CSS Syntax 3, sections 5 and 10).
+-- The components that the printed text of printable items is made of, each at the place 0 (CSS Syntax 3, sections 5 and 10).
 use Rattle.std.specs.Prelude.{List, [], ◌∷◌, ◌++◌, flat_map, Bool, codes, if◌then◌else◌}
 use Rattle.css_tokens.specs.declared.kind.Kind.TheVariants as kinds
 use Rattle.css_tokens.specs.declared.component.Component.{Component}
 use Rattle.css_tokens.specs.ValueAgain.{value_again}
 use Rattle.css_rules.specs.declared.sheet.Declaration.{Declaration}
-use Rattle.css_rules.specs.Runs.{Run}
+use Rattle.css_rules.specs.declared.sheet.Item.{Item}
+use Rattle.css_rules.specs.ItemFold.{Steps, folded}
 use Rattle.selector_types.specs.Spelling.{single, block, ident, colon, space, list_spelling}
-use Rattle.css_rules.specs.SheetTexts.{innermost}
 
 -- a semicolon
 abbrev pub semicolon : Component
@@ -38,14 +38,26 @@ abbrev pub declarations_again : List Declaration → List Component
 declarations_again [] = []
 declarations_again (d ∷ ds) = declaration_again d ++ more_again ds
 
--- the `{}` block in which these declarations stand
-abbrev pub block_again : List Declaration → Component
-block_again ds = block kinds.Open (codes "{") (declarations_again ds)
+-- a `{}` block
+abbrev pub braces : List Component → Component
+braces inside = block kinds.Open (codes "{") inside
 
--- the style rule of a run: its innermost selector list, its block, and a line feed
-abbrev pub run_again : Run → List Component
-run_again run = list_spelling (innermost run.context.chain) ++ block_again run.declarations ∷ line_feed ∷ []
+-- what stands before a `{}` block, the block, and a line feed; nothing where nothing is in the block
+abbrev pub braced_again : List Component → List Component → List Component
+braced_again front [] = []
+braced_again front (c ∷ cs) = front ++ braces (c ∷ cs) ∷ line_feed ∷ []
 
--- the style rules of all runs, one after another
-abbrev pub sheet_again : List Run → List Component
-sheet_again runs = flat_map run_again runs
+-- declarations with semicolons between them, and a style rule as its selector list and a block of what is in it
+abbrev pub spelling_again : Steps (List Component)
+spelling_again = record {
+  plain = declarations_again;
+  style = λ selectors at inner. braced_again (list_spelling selectors) (flat_map (λ (cs : List Component). cs) inner);
+}
+
+-- the components of an item
+abbrev pub item_again : Item → List Component
+item_again = folded spelling_again
+
+-- the components of items one after another
+abbrev pub items_again : List Item → List Component
+items_again items = flat_map item_again items

@@ -1,6 +1,5 @@
 -- How a sheet prints (CSSOM, sections 6.4 and 6.7; this project's own choice of white space).
 use Rattle.std.specs.Prelude.{ℕ, List, [], ◌∷◌, ◌++◌, ◌≡◌, map, flat_map, Bool, codes, if◌then◌else◌}
-use Rattle.std.proofs.Common.{◌∙◌, ap}
 use Rattle.css_tokens.specs.declared.component.Component.{Component}
 use Rattle.css_tokens.specs.NameText.{name_text}
 use Rattle.css_tokens.specs.Values.{value_text}
@@ -8,13 +7,10 @@ use Rattle.css_rules.specs.declared.sheet.Declaration.{Declaration}
 use Rattle.css_rules.specs.declared.sheet.Item.{Item}
 use Rattle.css_rules.specs.declared.sheet.Item as item
 use Rattle.css_rules.specs.declared.sheet.Style as style
-use Rattle.css_rules.specs.declared.sheet.Item.TheVariants.{outs-Style, outs-Plain}
-use Rattle.css_rules.specs.declared.sheet.Item.TheOpen.{Item-F, Style, Plain, Style-F}
-use Rattle.css_rules.specs.declared.sheet.Item.TheFolds.{fold-Item, fold_out-Item}
 use Rattle.css_rules.specs.declared.sheet.Sheet.{Sheet}
 use Rattle.selector_types.specs.declared.selector.Selector.{Selector}
 use Rattle.selector_types.specs.Spelling.{list_text}
-use Rattle.css_rules.specs.Runs.{Run}
+use Rattle.css_rules.specs.ItemFold.{Steps, folded, folded-Plain, folded-Style}
 
 -- the text of a value; an empty one prints as one space
 abbrev pub printed_value : List Component → List ℕ
@@ -62,48 +58,29 @@ abbrev pub rule_text : List Selector → List ℕ → List ℕ
 rule_text list [] = []
 rule_text list (c ∷ cs) = braced_text list (c ∷ cs)
 
--- the text of an item: declarations have semicolons between them where they are alone in their block, and else behind each
-abbrev pub item_text : Item-F ItemText (List ℕ) → ItemText
-item_text (Style text) = record { alone = text; among = text }
-item_text (Plain declarations) = record { alone = declarations_text declarations; among = ended_declarations declarations }
-
--- the text of a style rule whose items print so
-abbrev pub style_text : Style-F ItemText (List ℕ) → List ℕ
-style_text style = rule_text style.selectors (block_text style.items)
+-- declarations have semicolons between them where they are alone in their block, and else behind each; a style rule prints alike
+abbrev pub printing : Steps ItemText
+printing = record {
+  plain = λ ds. record { alone = declarations_text ds; among = ended_declarations ds };
+  style = λ selectors at inner. record { alone = rule_text selectors (block_text inner); among = rule_text selectors (block_text inner) };
+}
 
 -- the text of an item, alone and among others
 abbrev pub printed_item : Item → ItemText
-printed_item = fold-Item ItemText (List ℕ) item_text style_text
+printed_item = folded printing
+
+-- the text of items one after another
+abbrev pub items_text : List Item → List ℕ
+items_text items = flat_map (λ item. (printed_item item).among) items
 
 -- the items of a sheet, one after another
 abbrev pub sheet_text : Sheet → List ℕ
-sheet_text sheet = flat_map (λ item. (printed_item item).among) sheet.items
-
-abbrev layer_text : Item-F Item style.Style → ItemText
-layer_text v = item_text (item.map-Item Item style.Style ItemText (List ℕ) (fold-Item ItemText (List ℕ) item_text style_text) (style.fold-Style ItemText (List ℕ) item_text style_text) v)
+sheet_text sheet = items_text sheet.items
 
 -- Declarations print so.
-pub printed_item-Plain : (ds : List Declaration) → printed_item (item.Plain ds) ≡ item_text (Plain ds)
-printed_item-Plain ds = fold_out-Item ItemText (List ℕ) item_text style_text (item.Plain ds) ∙ ap layer_text (outs-Plain ds)
+pub printed_item-Plain : (ds : List Declaration) → printed_item (item.Plain ds) ≡ record { alone = declarations_text ds; among = ended_declarations ds }
+printed_item-Plain ds = folded-Plain printing ds
 
 -- A style rule has the texts of its items in its block.
-pub printed_item-Style : (s : style.Style) → printed_item (item.Style s) ≡ item_text (Style (rule_text s.selectors (block_text (map printed_item s.items))))
-printed_item-Style s =
-    fold_out-Item ItemText (List ℕ) item_text style_text (item.Style s) ∙ ap layer_text (outs-Style s)
-    ∙ ap (λ text. item_text (Style text)) (style.fold_out-Style ItemText (List ℕ) item_text style_text s)
-
--- A sheet of rules that are not nested, as its runs print.
-
--- the selector list of the innermost rule
-abbrev pub innermost : List (List Selector) → List Selector
-innermost [] = []
-innermost (list ∷ []) = list
-innermost (list ∷ more ∷ chain) = innermost (more ∷ chain)
-
--- the style rule of a run: its innermost selector list, its block, and a line feed
-abbrev pub run_text : Run → List ℕ
-run_text run = braced_text (innermost run.context.chain) (declarations_text run.declarations)
-
--- the style rules of all runs, one after another
-abbrev pub runs_text : List Run → List ℕ
-runs_text runs = flat_map run_text runs
+pub printed_item-Style : (s : style.Style) → printed_item (item.Style s) ≡ record { alone = rule_text s.selectors (block_text (map printed_item s.items)); among = rule_text s.selectors (block_text (map printed_item s.items)) }
+printed_item-Style s = folded-Style printing s

@@ -6,7 +6,8 @@ use Rattle.css_tokens.specs.Piece.{spelled}
 use Rattle.css_tokens.specs.Tokens.{ReadsTo, classes_of}
 use Rattle.css_tokens.specs.Trees.{words_all}
 use Rattle.css_rules.specs.declared.sheet.Declaration.{Declaration}
-use Rattle.css_rules.specs.Runs.{Run}
+use Rattle.css_rules.specs.declared.sheet.Item.{Item}
+use Rattle.css_rules.specs.Leaves.{Leaf, OfDeclaration, OfList, all_leaves}
 
 -- the tokens of the declaration's value are read one after another in some text, before a stop
 pub record Stands (d : Declaration) : Type 0 where
@@ -14,6 +15,11 @@ pub record Stands (d : Declaration) : Type 0 where
   pub stop : is_stop (classes_of behind) ≡ true
   pub reads : ReadsTo (spelled (words_all d.value) ++ behind) (words_all d.value) behind
 
--- each value of these runs stands so
-abbrev pub AllStand : List Run → Type 0
-AllStand runs = AllByRecursion (λ (run : Run). AllByRecursion Stands run.declarations) runs
+-- so do the values of what items are made of
+abbrev pub LeafStands : Leaf → Type 0
+LeafStands (OfDeclaration d) = Stands d
+LeafStands (OfList list) = Unit {0}
+
+-- each value in these items stands so
+abbrev pub AllStand : List Item → Type 0
+AllStand items = AllByRecursion LeafStands (all_leaves items)

@@ -1,7 +1,8 @@
 -- What a sheet says, places aside: in order of position, each declaration with what stands round it.
-use Rattle.std.specs.Prelude.{ℕ, List, map, flat_map, ◌≡◌}
+use Rattle.std.specs.Prelude.{ℕ, List, map, flat_map, ◌≡◌, Bool}
 use Rattle.std.proofs.Common.{◌∙◌, ap}
 use Rattle.std.proofs.lemmas.List.Folds.{flat_map-map}
+use Rattle.css_tokens.specs.declared.component.Component.{Component}
 use Rattle.css_rules.specs.declared.sheet.Declaration.{Declaration}
 use Rattle.css_rules.specs.declared.sheet.Item.{Item}
 use Rattle.css_rules.specs.declared.sheet.Item as item
@@ -10,7 +11,17 @@ use Rattle.css_rules.specs.declared.sheet.Sheet.{Sheet}
 use Rattle.selector_types.specs.Erased.{erased}
 use Rattle.css_rules.specs.Contexts.{LayerPath, Context, outside, under_list}
 use Rattle.css_rules.specs.ItemFold.{Steps, folded, folded-Plain, folded-Style}
-use Rattle.css_rules.specs.Runs.{BareDeclaration, bare_declaration}
+use Rattle.css_rules.specs.Erased.{bare_value}
+
+-- a declaration without its place, and with its value as text
+pub record BareDeclaration : Type 0 where
+  pub name : List ℕ
+  pub value : List Component
+  pub important : Bool
+
+-- the declaration without its place, and with its value as the text that it prints as
+abbrev pub bare_declaration : Declaration → BareDeclaration
+bare_declaration d = record { name = d.name; value = bare_value d.value; important = d.important }
 
 -- a rule that is passed on as text, such as `@font-face`: the name of its at-keyword, and the texts of its prelude and of its block
 pub record BarePassed : Type 0 where

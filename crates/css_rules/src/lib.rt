@@ -18,8 +18,9 @@ mod standing_law;
 mod waiting;
 mod within_law;
 
+pub use cuts::trimmed;
 pub use first_law::{the_first_fault_is_named, the_first_refusal_is_named};
-pub use places_law::{places_do_not_matter, runs_say};
+pub use places_law::{bare_items_say, places_do_not_matter};
 pub use plain_law::sheets_are_plain;
 pub use reader::{RuleFault, read_sheet};
 pub use reading_law::sheets_have_readings_or_refusals;

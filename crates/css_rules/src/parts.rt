@@ -75,7 +75,7 @@ pub fn is_block_in(components: &[Component]) -> bool
 pub fn is_braces(component: &Component) -> bool
     ensures { result ≡ is_braces component.now }
 {
-    !is_token(component) && head_of(component).text == "{"
+    !is_token(component) && matches!(head_of(component).text.as_bytes(), [b'{'])
 }
 
 /// Whether it is an at-keyword.

@@ -7,7 +7,7 @@ ghost use Rattle.css_rules.specs.Refusals.{first_refusal, holds, is_unbuilt_prop
 ghost use Rattle.css_rules.specs.Sheets.{block_refusals, declaration_refusals, declarations_of, first_place, is_rule, item_of, item_refusals, mark_place, plain_item, plain_refusals, prelude_of, prelude_refusals, rule_of, rule_refusals, rules_of, run_of, sheet_of, sheet_refusals, style_of, style_refusals, IsNamed, IsLeast};
 ghost use Rattle.css_rules.specs.Private.Faults.{fault_of};
 
-use crate::cuts::{end_of_cut, item_mark, mark_at, rule_mark, trimmed};
+use crate::cuts::{end_of_cut, is_semicolon, item_mark, mark_at, rule_mark, trimmed};
 use crate::declaration::{is_custom, read_declaration};
 use crate::first_law::the_first_refusal_is_named;
 use crate::parts::{begins_at_rule, is_braces, place_of};
@@ -178,6 +178,18 @@ pub fn push_some<T: Drop>(list: &mut List<T>, item: Option<T>) -> Result<(), Out
     }
 }
 
+/// For no more items than this is room taken at once.
+const MOST_ROOM: usize = 1_024;
+
+/// How many items the semicolons of a block part, as far as room is taken for them at once.
+fn count_of_items(block: &[Component]) -> usize {
+    let semicolons = block
+        .iter()
+        .filter(|component| is_semicolon(component))
+        .count();
+    semicolons.saturating_add(1).min(MOST_ROOM)
+}
+
 /// The declarations of a style rule's block.
 fn read_block<'a>(
     alloc: Global,
@@ -186,7 +198,7 @@ fn read_block<'a>(
     ensures refusal { IfOk result (λ read. read.refusal ≡ first_refusal (block_refusals block.now)) }
     ensures value { IfOk result (λ read. read.refusal ≡ None → declarations_of block.now ≡ Some read.value) }
 {
-    let mut declarations = List::new(alloc);
+    let mut declarations = List::with_capacity(alloc, count_of_items(block))?;
     let mut refusal = None;
     let mut from = 0;
     while from <= block.len() {

@@ -93,6 +93,7 @@ pub fn sooner_of(first: Option<Refusal>, second: Option<Refusal>) -> Option<Refu
     }
 }
 
+#[inline(always)]
 fn is_revert_layer(alloc: Global, token: &Token) -> Result<bool, OutOfMemory>
     ensures { IfOk result (λ is. is ≡ is_revert_layer token.now.kind token.now.text) }
 {
@@ -102,6 +103,7 @@ fn is_revert_layer(alloc: Global, token: &Token) -> Result<bool, OutOfMemory>
     }
 }
 
+#[inline(always)]
 fn is_url(alloc: Global, token: &Token) -> Result<bool, OutOfMemory>
     ensures { IfOk result (λ is. is ≡ is_url token.now.kind token.now.text) }
 {
@@ -114,6 +116,7 @@ fn is_url(alloc: Global, token: &Token) -> Result<bool, OutOfMemory>
 
 impl Sought {
     /// The place of the token where it is one of these.
+    #[inline(always)]
     fn at(self, alloc: Global, token: &Token) -> Result<Option<u32>, OutOfMemory>
         ensures { IfOk result (λ at. at ≡ option_map (λ token. token.at) (find (is_sought self) (token.now ∷ []))) }
     {
@@ -124,6 +127,7 @@ impl Sought {
         }
     }
 
+    #[inline(always)]
     fn is(self, alloc: Global, token: &Token) -> Result<bool, OutOfMemory>
         ensures { IfOk result (λ is. is ≡ is_sought self token.now) }
     {

@@ -1,4 +1,3 @@
-ghost use Rattle.css_rules.specs.Runs.{runs_of};
 ghost use Rattle.css_rules.specs.Sheets.{sheet_of};
 ghost use Rattle.css_rules.specs.Standing.{AllStand};
 ghost use Rattle.css_rules.specs.declared.sheet.Sheet.{Sheet};
@@ -13,7 +12,7 @@ use css_tokens::values_again;
 /// the tokens of the value are read there one after another, and behind them is the end of the text, white space, a
 /// comment, `;`, a closing bracket, or the `!` of `!important`.
 pub fn values_stand()
-    ensures { (text : List ℕ) (cs : List Component) (sheet : Sheet) → Reads text (words_all cs) → IsTrue (all_formed cs) → sheet_of cs ≡ Some sheet → AllStand (runs_of sheet) }
+    ensures { (text : List ℕ) (cs : List Component) (sheet : Sheet) → Reads text (words_all cs) → IsTrue (all_formed cs) → sheet_of cs ≡ Some sheet → AllStand sheet.items }
 {
     values_again();
 }

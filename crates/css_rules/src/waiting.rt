@@ -23,11 +23,12 @@ enum Seen {
     Waiting(u32),
 }
 
+#[inline(always)]
 fn is_ampersand(token: &Token) -> bool
     ensures { result ≡ is_ampersand token.now.kind token.now.text }
 {
     match token.kind {
-        Kind::Delim => token.text == "&",
+        Kind::Delim => matches!(token.text.as_bytes(), [b'&']),
         _ => false,
     }
 }
@@ -42,6 +43,7 @@ fn is_is(alloc: Global, token: &Token) -> Result<bool, OutOfMemory>
 }
 
 /// What is seen at a token with nothing before it.
+#[inline(always)]
 fn begun(token: &Token) -> Seen
     ensures { result ≡ begun token.now }
 {
@@ -69,6 +71,7 @@ fn behind_colon(alloc: Global, at: u32, token: &Token) -> Result<Seen, OutOfMemo
 
 impl Seen {
     /// What is seen at one more token.
+    #[inline(always)]
     fn at(self, alloc: Global, token: &Token) -> Result<Seen, OutOfMemory>
         ensures { IfOk result (λ seen. seen ≡ seen_at self token.now) }
     {
@@ -101,6 +104,7 @@ impl Seen {
 
 /// What is seen at the end of a component.
 #[cycle(seen)]
+#[inline(always)]
 fn over_one(alloc: Global, seen: Seen, component: &Component) -> Result<Seen, OutOfMemory>
     ensures { IfOk result (λ s. s ≡ seen_over seen (pieces_of component.now)) }
 {

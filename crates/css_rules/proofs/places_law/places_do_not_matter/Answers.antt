@@ -1,8 +1,8 @@
 use Rattle.std.proofs.Common.{false}
-use Rattle.css_rules.proofs.Places.{ListPlaces, rules-places, sheet-places}
+use Rattle.css_rules.proofs.Places.{ListPlaces, sheet-places}
 use Rattle.css_rules.proofs.places_law.places_do_not_matter.Goals as goal
 
 pub returns : goal.returns
 returns c =
     let lists : ListPlaces = λ a b words formed_a formed_b. c.places_are_not_read.ensures false a b 0 0 words formed_a formed_b in
-    record { rules = rules-places c.one_pairing.ensures lists; runs = sheet-places c.one_pairing.ensures lists }
+    sheet-places c.one_pairing.ensures lists

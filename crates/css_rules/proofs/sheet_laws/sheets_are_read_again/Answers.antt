@@ -1,12 +1,12 @@
 use Rattle.css_rules.proofs.ValueFacts.{ValueLaws}
 use Rattle.css_rules.proofs.SheetRound.{NameLaws}
-use Rattle.css_rules.proofs.RulesAgain.{SelectorLaws, rules-read, sheet-again}
-use Rattle.css_rules.proofs.SheetSpelled.{formed-sheet}
+use Rattle.css_rules.proofs.RulesAgain.{SelectorLaws, items-read}
+use Rattle.css_rules.proofs.SheetSpelled.{items-formed}
 use Rattle.css_rules.proofs.CleanTexts.{ListTexts}
 use Rattle.css_rules.proofs.TreeTexts.{clean-strings, list-clean, list-unmarked}
 use Rattle.std.proofs.Common.{false, refl}
 use Rattle.selector_types.specs.Spelling.{list_spelling}
-use Rattle.css_rules.proofs.SheetReads.{ReadLaws, text-reads}
+use Rattle.css_rules.proofs.SheetReads.{ReadLaws, items-read-on}
 use Rattle.css_rules.proofs.sheet_laws.sheets_are_read_again.Goals as goal
 
 pub returns : goal.returns
@@ -34,8 +34,7 @@ returns c =
       texts = texts;
     } in
     record {
-      reads = text-reads reading values;
-      formed = formed-sheet values lists.formed;
-      rules = rules-read values names selectors;
-      same = sheet-again values names selectors;
+      reads = items-read-on reading values;
+      formed = items-formed values lists.formed;
+      same = items-read values names selectors;
     }

@@ -1,6 +1,6 @@
 use Rattle.std.proofs.Common.{rules}
 use Rattle.css_rules.proofs.Computing.{computing}
-use Rattle.css_rules.proofs.examples.sheets.runs_of_sheets.Goals as goal
+use Rattle.css_rules.proofs.examples.sheets.items_of_sheets.Goals as goal
 
 pub returns : goal.returns
 returns c = simp computing (search (rules, computing))
