@@ -1,1 +1,3 @@
 pub mod OldPseudos
+pub mod LogicalProperties
+pub mod OldFeatures
