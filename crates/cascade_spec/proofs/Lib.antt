@@ -1,8 +1,11 @@
 pub mod Computing
 pub mod KeptLemmas
 pub mod KeepsLemmas
+pub mod AlikeLemmas
+pub mod PassLemmas
 pub mod WinnerLemmas
 pub mod RelationLemmas
 pub mod LayerLemmas
 pub mod SpelledWords
 pub mod PlaceLemmas
+pub mod TruthComputing

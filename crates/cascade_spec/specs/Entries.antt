@@ -3,7 +3,7 @@ use Rattle.std.specs.Prelude.{ℕ, List, [], ◌∷◌, Bool, ◌&&◌, not, Opt
 use Rattle.std.specs.List.{list_any}
 use Rattle.css_tokens.specs.Trees.{is_text}
 use Rattle.css_tokens.specs.Values.{value_text}
-use Rattle.css_rules.specs.Runs.{BareDeclaration}
+use Rattle.css_rules.specs.Statements.{BareDeclaration}
 use Rattle.cascade_spec.specs.declared.environment.Environment.{Environment}
 use Rattle.cascade_spec.specs.declared.environment.Shorthand.{Shorthand}
 use Rattle.cascade_spec.specs.Worlds.{World}

@@ -8,10 +8,13 @@ pub mod Relations
 pub mod Layers
 pub mod LayerOrder
 pub mod Standings
+pub mod Truth
+pub mod TruthSamples
 pub mod Entries
 pub mod Cascade
 pub mod Showing
 pub mod Contents
+pub mod Passes
 pub mod Readings
 pub mod SelectorSamples
 pub mod Samples

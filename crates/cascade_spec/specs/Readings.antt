@@ -4,6 +4,7 @@ use Rattle.css_tokens.specs.declared.component.Component.{Component}
 use Rattle.css_tokens.specs.Tokens.{Reads}
 use Rattle.css_tokens.specs.Trees.{words_all, all_formed}
 use Rattle.css_rules.specs.declared.sheet.Sheet.{Sheet}
+use Rattle.css_rules.specs.BareItems.{bare_sheet, filled_items}
 use Rattle.css_rules.specs.Sheets.{sheet_of}
 use Rattle.css_rules.specs.Statements.{statements_of}
 use Rattle.cascade_spec.specs.Contents.{SameWinners}
@@ -17,10 +18,10 @@ pub record ReadsAs (text : List ℕ) (components : List Component) : Type 0 wher
 abbrev pub HasSheet : List ℕ → Sheet → Type 0
 HasSheet text sheet = (components : List Component) × ReadsAs text components × (sheet_of components ≡ Some sheet)
 
--- The one text reads as the sheet of the other, places, comments, the spelling of white space and empty rules aside, and it has a sheet.
+-- The one text has a sheet, and that is, item by item, the sheet of the other without the rules that declare nothing, places, comments and the spelling of white space aside.
 pub record IsReadAgain (source written : List ℕ) : Type 0 where
   pub readable : (sheet : Sheet) × HasSheet written sheet
-  pub same : (old new : Sheet) → HasSheet source old → HasSheet written new → statements_of new ≡ statements_of old
+  pub same : (old new : Sheet) → HasSheet source old → HasSheet written new → bare_sheet new ≡ filled_items (bare_sheet old)
 
 -- Under the sheet of the one text each winner is that under the sheet of the other, and it has one.
 pub record KeepsWinners (source written : List ℕ) : Type 0 where

@@ -5,8 +5,7 @@ use Rattle.css_tokens.specs.declared.kind.Kind.TheVariants as kinds
 use Rattle.css_tokens.specs.declared.component.Component as component
 use Rattle.css_rules.specs.declared.sheet.LayerName.TheVariants as LayerName
 use Rattle.css_rules.specs.Contexts.{LayerPath, outside}
-use Rattle.css_rules.specs.Runs.{BareDeclaration}
-use Rattle.css_rules.specs.Statements.{BarePassed, Statement, Declares, Mentions}
+use Rattle.css_rules.specs.Statements.{BareDeclaration, BarePassed, Statement, Declares, Mentions}
 use Rattle.selector_types.specs.declared.selector.Compound.{Compound}
 use Rattle.selector_types.specs.declared.selector.Selector.{Selector}
 use Rattle.selector_types.specs.declared.triple.Specificity.{Specificity}

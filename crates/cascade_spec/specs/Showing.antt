@@ -4,8 +4,7 @@ use Rattle.std.specs.List.{filter_map, list_any}
 use Rattle.std.specs.Option.{option_map}
 use Rattle.css_tokens.specs.Trees.{is_text}
 use Rattle.css_rules.specs.Contexts.{LayerPath}
-use Rattle.css_rules.specs.Runs.{BareDeclaration}
-use Rattle.css_rules.specs.Statements.{BarePassed, Statement, Declares, Passes, Mentions}
+use Rattle.css_rules.specs.Statements.{BareDeclaration, BarePassed, Statement, Declares, Passes, Mentions}
 use Rattle.cascade_spec.specs.Worlds.{World}
 use Rattle.cascade_spec.specs.Standings.{Standing, standing_of}
 use Rattle.cascade_spec.specs.Entries.{Entry, entries_of, is_active, value_set}

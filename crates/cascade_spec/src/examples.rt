@@ -2,6 +2,8 @@
 //! page, the browser and the rules of `specs/SelectorSamples.antt` and `specs/Samples.antt`.
 
 pub mod matching;
+pub mod passes;
+pub mod truth;
 
 ghost use Rattle.std.specs.Prelude.{◌≡◌, List, [], ◌∷◌, true, false, Some, None, codes};
 ghost use Rattle.std.specs.declared.cmp.Ordering.TheVariants.{Less, Equal, Greater};

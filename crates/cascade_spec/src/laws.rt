@@ -3,10 +3,9 @@
 ghost use Rattle.std.specs.Prelude.{◌≡◌, ◌++◌, [], ℕ, List, Bool, IsTrue, Some, flat_map, map};
 ghost use Rattle.std.specs.List.{AllByRecursion};
 ghost use Rattle.css_rules.specs.Contexts.{LayerPath, Context, outside, under_list};
-ghost use Rattle.css_rules.specs.Statements.{Statement, say_all, statements_of};
-ghost use Rattle.css_rules.specs.BareRules.{bare_rules, rule_of_run};
+ghost use Rattle.css_rules.specs.Statements.{Statement, says, say_all};
+ghost use Rattle.css_rules.specs.BareItems.{bare_sheet};
 ghost use Rattle.css_rules.specs.Printable.{all_whole};
-ghost use Rattle.css_rules.specs.Runs.{runs_of};
 ghost use Rattle.css_rules.specs.SheetTexts.{sheet_text};
 ghost use Rattle.selector_types.specs.declared.selector.Combinator.TheVariants.{Descendant, Child, Next, Later};
 ghost use Rattle.css_rules.specs.declared.sheet.Item.{Item};
@@ -25,15 +24,13 @@ ghost use Rattle.cascade_spec.specs.Contents.{IsKept, SameWinners};
 ghost use Rattle.cascade_spec.specs.Showing.{showing, joined};
 ghost use Rattle.cascade_spec.specs.Readings.{HasSheet, IsReadAgain, KeepsWinners};
 
-/// The text that the sheet of a text prints as reads as that sheet, and so keeps its winners, where all is kept of its
-/// selectors: a sheet with a function of which nothing is kept, or a flag of an attribute selector, has no text that says the
-/// same. Each rule of a sheet that the printed text reads as says one run of the printed sheet, so that none is empty. A text
-/// reads as one sheet, places aside.
+/// The text that the sheet of a text prints as reads as that sheet, item by item, without the rules that declare nothing and
+/// places aside, and so keeps its winners, where all is kept of its selectors: a sheet with a function of which nothing is
+/// kept, or a flag of an attribute selector, has no text that says the same. A text reads as one sheet, places aside.
 pub fn sheets_keep_winners()
     ensures again { (source : List ℕ) (sheet : Sheet) → HasSheet source sheet → IsTrue (all_whole sheet) → IsReadAgain source (sheet_text sheet) }
-    ensures rules { (source : List ℕ) (sheet new : Sheet) → HasSheet source sheet → IsTrue (all_whole sheet) → HasSheet (sheet_text sheet) new → bare_rules new ≡ map rule_of_run (runs_of sheet) }
     ensures kept { (source : List ℕ) (sheet : Sheet) → HasSheet source sheet → IsTrue (all_whole sheet) → KeepsWinners source (sheet_text sheet) }
-    ensures one { (text : List ℕ) (a b : Sheet) → HasSheet text a → HasSheet text b → statements_of a ≡ statements_of b }
+    ensures one { (text : List ℕ) (a b : Sheet) → HasSheet text a → HasSheet text b → bare_sheet a ≡ bare_sheet b }
 {
     css_tokens::one_reading();
     css_tokens::names_spell();
@@ -44,7 +41,7 @@ pub fn sheets_keep_winners()
     css_rules::values_stand();
     css_rules::sheets_are_read_again();
     css_rules::places_do_not_matter();
-    css_rules::runs_say();
+    css_rules::bare_items_say();
 }
 
 /// The entry that is computed as the winner is above every other, no second entry is, and an entry that is above every
@@ -97,4 +94,16 @@ pub fn kept_is_kept()
     ensures shown { (q : Question) (old new : List Statement) → showing q new ≡ showing q old → IsKept q old new }
     ensures by_items { (q : Question) (old new : Item → List Statement) (items : List Item) → AllByRecursion (λ item. showing q (new item) ≡ showing q (old item)) items → IsKept q (flat_map old items) (flat_map new items) }
     ensures twice { (a b c : List Statement) → SameWinners a b → SameWinners b c → SameWinners a c }
+{}
+
+/// An item shows the same inside contexts that are the same in the world.
+pub fn alike_shows_alike()
+    ensures { (q : Question) (a b : Context) → standing_of q.world a ≡ standing_of q.world b → (item : Item) → showing q (says item a) ≡ showing q (says item b) }
+{}
+
+/// A rewriting by which each item of a list shows the same keeps the list: what it shows, also where it is moved to other
+/// surroundings, and so the winners and the passed rules.
+pub fn passes_keep()
+    ensures shown { (q : Question) (lowered : Item → List Item) (a b : Context) (items : List Item) → AllByRecursion (λ item. showing q (say_all (lowered item) a) ≡ showing q (says item b)) items → showing q (say_all (flat_map lowered items) a) ≡ showing q (say_all items b) }
+    ensures kept { (q : Question) (lowered : Item → List Item) (items : List Item) → AllByRecursion (λ item. showing q (say_all (lowered item) outside) ≡ showing q (says item outside)) items → IsKept q (say_all items outside) (say_all (flat_map lowered items) outside) }
 {}

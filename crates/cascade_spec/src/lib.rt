@@ -8,9 +8,11 @@ mod environment;
 pub mod examples;
 mod finding;
 pub mod laws;
+mod pass;
 mod place;
 
 pub use document::{Document, Element, ScopedName, TailHolds};
 pub use environment::{Environment, Shorthand};
 pub use finding::{Code, Finding, LimitKind};
+pub use pass::{Chain, Pass, lower};
 pub use place::{LineColumn, Place, line_column};

@@ -1,0 +1,15 @@
+use Rattle.std.proofs.Common.{List, sym, subst}
+use Rattle.css_rules.specs.declared.sheet.Item.{Item}
+use Rattle.css_rules.specs.Contexts.{outside}
+use Rattle.css_rules.specs.Statements.{say_all}
+use Rattle.cascade_spec.specs.Contents.{IsKept}
+use Rattle.cascade_spec.proofs.pass.lower.Goals as goal
+
+pub returns : goal.returns
+returns g c =
+    record {
+      lowered = c.in_ok-made.ensures;
+      kept = λ q premise.
+          subst (λ (ys : List Item). IsKept q (say_all c.args.sheet.items outside) (say_all ys outside)) (sym c.in_ok-made.ensures)
+          (g.met.P.Pass.keeps c.args.pass.now c.args.sheet.items c.requires q premise);
+    }
