@@ -1,9 +1,9 @@
 -- What cannot be written has a finding: so of selectors without findings all is kept.
-use Rattle.std.specs.Prelude.{ℕ, List, [], ◌∷◌, ◌++◌, map, flat_map, Bool, true, false, not, ◌&&◌, Option, Some, None, ◌≡◌, if◌then◌else◌}
-use Rattle.std.specs.List.{AllByRecursion, list_all, filter_map}
+use Rattle.std.specs.Prelude.{ℕ, List, [], ◌∷◌, ◌++◌, map, flat_map, Bool, true, false, not, ◌&&◌, Option, Some, None, ◌≡◌}
+use Rattle.std.specs.List.{AllByRecursion, list_all}
 use Rattle.std.proofs.Common.{refl, sym, subst, ◌∙◌, ap}
 use Rattle.std.proofs.lemmas.List.Elements.{filter_map-append}
-use Rattle.std.proofs.lemmas.List.Folds.{list_all-append}
+use Rattle.std.proofs.lemmas.List.Folds.{flat_map-map, list_all-append}
 use Rattle.selector_types.specs.declared.selector.Attribute as attribute
 use Rattle.selector_types.specs.declared.selector.Simple.{Simple}
 use Rattle.selector_types.specs.declared.selector.Simple as simple
@@ -13,25 +13,20 @@ use Rattle.selector_types.specs.declared.selector.Link as link
 use Rattle.selector_types.specs.declared.selector.Part as part
 use Rattle.selector_types.specs.declared.selector.Selector as selector
 use Rattle.selector_types.specs.BareFold.{placed}
-use Rattle.selector_types.specs.Erased.{erased}
-use Rattle.selector_types.specs.SameErased.{same-erased}
 use Rattle.selector_types.specs.PartsFound.{parts-Not, parts-Is, parts-Where, parts-Local, parts-Global, parts-Compound, parts-Selector}
 use Rattle.selector_types.specs.PartsWithin.{simple_parts, compound_parts, selector_parts, list_parts}
 use Rattle.selector_types.specs.ReadableSelectors.{writable, is_writable_simple, is_writable_compound, is_writable_selector, is_writable_list}
-use Rattle.selector_types.specs.SelectorFold.{made_part, made_link, simple_of, compound_of, folded-Class, folded-Id, folded-Attribute, folded-Pseudo, folded-Not, folded-Is, folded-Where, folded-Parent, folded-Local, folded-Global, folded-Foreign, folded-Compound, folded-Selector}
+use Rattle.selector_types.specs.SelectorFold.{made_part, made_link, simple_of, compound_of, folded-Class, folded-Id, folded-Attribute, folded-Pseudo, folded-Not, folded-Is, folded-Where, folded-Parent, folded-Local, folded-Global, folded-Compound, folded-Selector}
 use Rattle.selector_types.specs.SelectorInduction.{Cases, by_lists}
 use Rattle.css_rules.specs.declared.sheet.Declaration.{Declaration}
 use Rattle.css_rules.specs.declared.sheet.Item.{Item}
-use Rattle.css_rules.specs.declared.sheet.Item as item
-use Rattle.css_rules.specs.declared.sheet.Style as style
 use Rattle.css_rules.specs.declared.sheet.Sheet.{Sheet}
-use Rattle.css_rules.specs.Contexts.{Context, outside, under_list}
+use Rattle.css_rules.specs.ItemFold.{folded-Plain, folded-Style}
 use Rattle.css_rules.specs.ItemInduction as items
-use Rattle.css_rules.specs.Printable.{is_whole}
-use Rattle.css_rules.specs.Runs.{Run, runs_within, runs_of, runs_within-Plain, runs_within-Style}
+use Rattle.css_rules.specs.Leaves.{Leaf, OfDeclaration, all_leaves, leafing, leaves, rule_leaves}
+use Rattle.css_rules.specs.Printable.{all_whole, is_whole}
 use Rattle.cascade_spec.specs.declared.finding.Code.{Code}
-use Rattle.cascade_spec.specs.declared.finding.Finding.{Finding}
-use Rattle.findings.specs.Constructs.{code_of, found_at, part_finding, part_findings, item_parts, items_parts, sheet_findings, parts-Style}
+use Rattle.findings.specs.Constructs.{code_of, part_finding, part_findings, item_parts, items_parts, sheet_findings, parts-Style}
 
 -- Lists.
 
@@ -128,46 +123,48 @@ module _ (file : ℕ) where
         (links s.rest each (bare-back (compound_parts s.first) (flat_map (λ l. compound_parts (compound_of l)) s.rest) (subst Bare (parts-Selector s) none)));
   }
 
-  -- a list in which nothing stands, with its places at 0, can be written
-  list-whole : (ss : List selector.Selector) → AllByRecursion R ss → Bare (list_parts ss) → is_writable_list (map erased ss) ≡ true
+  -- a list in which nothing stands can be written
+  list-whole : (ss : List selector.Selector) → AllByRecursion R ss → Bare (list_parts ss) → is_writable_list ss ≡ true
   list-whole [] each none = refl
   list-whole (s ∷ ss) each none =
-      both (is_writable_selector (erased s)) (is_writable_list (map erased ss))
-      (same-erased writable s ∙ each.0 (bare-front (selector_parts s) (list_parts ss) none))
+      both (is_writable_selector s) (is_writable_list ss)
+      (each.0 (bare-front (selector_parts s) (list_parts ss) none))
       (list-whole ss each.1 (bare-back (selector_parts s) (list_parts ss) none))
 
   -- Items.
 
-  abbrev Kept : Context → Type 0
-  Kept c = list_all is_writable_list c.chain ≡ true
-
   abbrev Whole : Item → Type 0
-  Whole x = Bare (item_parts x) → (c : Context) → Kept c → list_all is_whole (runs_within x c) ≡ true
+  Whole x = Bare (item_parts x) → list_all is_whole (leaves x) ≡ true
 
-  kept-under : (ss : List selector.Selector) (c : Context) → is_writable_list ss ≡ true → Kept c → Kept (under_list ss c)
-  kept-under ss c h kept = list_all-append is_writable_list c.chain (ss ∷ []) ∙ both (list_all is_writable_list c.chain) (list_all is_writable_list (ss ∷ [])) kept (both (is_writable_list ss) true h refl)
+  declarations-whole : (ds : List Declaration) → list_all is_whole (map OfDeclaration ds) ≡ true
+  declarations-whole [] = refl
+  declarations-whole (d ∷ ds) = declarations-whole ds
 
-  inner : (xs : List Item) → items.Each Whole xs → Bare (items_parts xs) → (c : Context) → Kept c → list_all is_whole (flat_map (λ x. runs_within x c) xs) ≡ true
-  inner [] each none c kept = refl
-  inner (x ∷ xs) each none c kept =
-      list_all-append is_whole (runs_within x c) (flat_map (λ x. runs_within x c) xs)
-      ∙ both (list_all is_whole (runs_within x c)) (list_all is_whole (flat_map (λ x. runs_within x c) xs))
-      (each.0 (bare-front (item_parts x) (items_parts xs) none) c kept)
-      (inner xs each.1 (bare-back (item_parts x) (items_parts xs) none) c kept)
+  rule-whole : (ss : List selector.Selector) (ls : List Leaf) → is_writable_list ss ≡ true → list_all is_whole ls ≡ true → list_all is_whole (rule_leaves ss ls) ≡ true
+  rule-whole ss [] listed whole = refl
+  rule-whole ss (l ∷ ls) listed whole = both (is_writable_list ss) (list_all is_whole (l ∷ ls)) listed whole
+
+  inner : (xs : List Item) → items.Each Whole xs → Bare (items_parts xs) → list_all is_whole (all_leaves xs) ≡ true
+  inner [] each none = refl
+  inner (x ∷ xs) each none =
+      list_all-append is_whole (leaves x) (all_leaves xs)
+      ∙ both (list_all is_whole (leaves x)) (list_all is_whole (all_leaves xs))
+      (each.0 (bare-front (item_parts x) (items_parts xs) none))
+      (inner xs each.1 (bare-back (item_parts x) (items_parts xs) none))
 
   item_cases : items.Cases Whole
   item_cases = record {
-    plain = λ ds none c kept. ap (list_all is_whole) (runs_within-Plain ds c) ∙ both (list_all is_writable_list c.chain) true kept refl;
-    style = λ s each none c kept.
+    plain = λ ds none. ap (list_all is_whole) (folded-Plain leafing ds) ∙ declarations-whole ds;
+    style = λ s each none.
         let bare = subst Bare (parts-Style s) none in
         let listed = list-whole s.selectors (by_lists P Q R cases s.selectors) (bare-front (list_parts s.selectors) (items_parts s.items) bare) in
-        ap (list_all is_whole) (runs_within-Style s c)
-        ∙ inner s.items each (bare-back (list_parts s.selectors) (items_parts s.items) bare) (under_list (map erased s.selectors) c) (kept-under (map erased s.selectors) c listed kept);
+        ap (list_all is_whole) (folded-Style leafing s ∙ ap (rule_leaves s.selectors) (flat_map-map (λ (ls : List Leaf). ls) leaves s.items))
+        ∙ rule-whole s.selectors (all_leaves s.items) listed (inner s.items each (bare-back (list_parts s.selectors) (items_parts s.items) bare));
   }
 
   each_item : (xs : List Item) → items.Each Whole xs
   each_item [] = tt
   each_item (x ∷ xs) = (items.by_items Whole item_cases x, each_item xs)
 
-pub sheet-whole : (file : ℕ) (sheet : Sheet) → sheet_findings file sheet ≡ [] → list_all is_whole (runs_of sheet) ≡ true
-sheet-whole file sheet none = inner file sheet.items (each_item file sheet.items) none outside refl
+pub sheet-whole : (file : ℕ) (sheet : Sheet) → sheet_findings file sheet ≡ [] → all_whole sheet ≡ true
+sheet-whole file sheet none = inner file sheet.items (each_item file sheet.items) none

@@ -1,6 +1,6 @@
 -- The constructs that cannot be expressed for older browsers: where each stands, and its code. A part of a selector has at
 -- most one.
-use Rattle.std.specs.Prelude.{ℕ, List, [], ◌++◌, ◌≡◌, map, flat_map, Option, Some, None, if◌then◌else◌}
+use Rattle.std.specs.Prelude.{ℕ, List, [], ◌++◌, ◌≡◌, flat_map, Option, Some, None, if◌then◌else◌}
 use Rattle.std.proofs.Common.{◌∙◌, ap}
 use Rattle.std.proofs.lemmas.List.Folds.{flat_map-map}
 use Rattle.std.specs.List.{filter_map}

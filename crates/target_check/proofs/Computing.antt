@@ -1,5 +1,6 @@
 -- How selectors and sheets that are written out compute.
 use Rattle.std.specs.Prelude.{ℕ, List, ◌++◌, flat_map, ◌≡◌, Option}
+use Rattle.css_tokens.specs.declared.component.Component.TheVariants.{outs-Single}
 use Rattle.css_rules.specs.declared.sheet.Item.TheVariants.{outs-Style, outs-Plain}
 use Rattle.selector_types.specs.declared.selector.Combinator.{Combinator}
 use Rattle.selector_types.specs.declared.selector.TypeName.{TypeName}
@@ -18,4 +19,4 @@ made-compound kind ps tail = parts-Compound (record { kind = kind; parts = ps; t
 pub made-selector : (lead : Option Combinator) (first : compound.Compound) (rest : List link.Link) (at : ℕ) → selector_parts (record { lead = lead; first = first; rest = rest; at = at }) ≡ compound_parts first ++ flat_map (λ l. compound_parts (compound_of l)) rest
 made-selector lead first rest at = parts-Selector (record { lead = lead; first = first; rest = rest; at = at })
 
-pub ruleset computing = (outs-Style, outs-Plain, outs-Class, outs-Id, outs-Attribute, outs-Pseudo, outs-Not, outs-Is, outs-Where, outs-Parent, outs-Local, outs-Global, outs-Foreign, parts-Class, parts-Id, parts-Attribute, parts-Pseudo, parts-Not, parts-Is, parts-Where, parts-Parent, parts-Local, parts-Global, parts-Foreign, made-compound, made-selector)
+pub ruleset computing = (outs-Single, outs-Style, outs-Plain, outs-Class, outs-Id, outs-Attribute, outs-Pseudo, outs-Not, outs-Is, outs-Where, outs-Parent, outs-Local, outs-Global, outs-Foreign, parts-Class, parts-Id, parts-Attribute, parts-Pseudo, parts-Not, parts-Is, parts-Where, parts-Parent, parts-Local, parts-Global, parts-Foreign, made-compound, made-selector)

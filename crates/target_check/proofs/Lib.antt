@@ -1,3 +1,4 @@
+pub mod Built
 pub mod Parts
 pub mod Computing
 pub mod Places

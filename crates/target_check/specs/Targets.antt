@@ -1,7 +1,8 @@
--- Which sheets hold nothing that older browsers do not read (this project's own, after Selectors 3, sections 5 to 8).
-use Rattle.std.specs.Prelude.{List, [], ◌∷◌, Bool, true, false, not, ◌&&◌, is_none, codes}
+-- Which sheets hold nothing that older browsers do not read (this project's own, after Selectors 3, sections 5 to 8, and CSS Logical 1).
+use Rattle.std.specs.Prelude.{ℕ, List, [], ◌∷◌, Bool, true, false, not, ◌&&◌, ◌||◌, is_none, codes}
 use Rattle.std.specs.List.{list_all, list_any}
 use Rattle.css_tokens.specs.Trees.{is_text}
+use Rattle.css_tokens.specs.declared.component.Component.{Component}
 use Rattle.selector_types.specs.LoneSimples.{Opened, is_one_simple}
 use Rattle.selector_types.specs.PartsWithin.{selector_parts}
 use Rattle.selector_types.specs.declared.selector.Link.TheOpen.{Class, Id, Attribute, Pseudo, Not, Is, Where, Parent, Local, Global, Foreign}
@@ -9,12 +10,15 @@ use Rattle.selector_types.specs.declared.selector.Part as part
 use Rattle.selector_types.specs.declared.selector.Selector.{Selector}
 use Rattle.selector_types.specs.declared.selector.Simple.{Simple}
 use Rattle.selector_types.specs.declared.selector.Simple as simple
+use Rattle.css_rules.specs.Components.{head, is_ident, is_keyword, name_of}
+use Rattle.css_rules.specs.Cuts.{trimmed}
 use Rattle.css_rules.specs.declared.sheet.Declaration.{Declaration}
 use Rattle.css_rules.specs.declared.sheet.Item.{Item}
 use Rattle.css_rules.specs.declared.sheet.Item as item
 use Rattle.css_rules.specs.declared.sheet.Item.TheOpen.{Item-F, Style, Plain}
 use Rattle.css_rules.specs.declared.sheet.Style as style
 use Rattle.css_rules.specs.declared.sheet.Sheet.{Sheet}
+use Rattle.prop_table.specs.LogicalProperties.{is_logical}
 
 -- Selectors.
 
@@ -44,16 +48,50 @@ is_old_part (part.Placed x at) = is_old_simple x
 abbrev pub is_old_selector : Selector → Bool
 is_old_selector s = is_none s.lead && list_all is_old_part (selector_parts s)
 
+-- Declarations.
+
+-- is the component this keyword, in any case of letters?
+abbrev pub is_the_keyword : List ℕ → Component → Bool
+is_the_keyword keyword c = is_ident c && is_keyword keyword (name_of (head c))
+
+-- is the keyword alone in the list?
+abbrev pub is_lone : List ℕ → List Component → Bool
+is_lone keyword [] = false
+is_lone keyword (c ∷ []) = is_the_keyword keyword c
+is_lone keyword (c ∷ d ∷ cs) = false
+
+-- is the value this keyword, white space and comments aside?
+abbrev pub is_lone_keyword : List ℕ → List Component → Bool
+is_lone_keyword keyword value = is_lone keyword (trimmed value)
+
+-- is the value a side of the inline axis?
+abbrev pub is_side : List Component → Bool
+is_side value = is_lone_keyword (codes "inline-start") value || is_lone_keyword (codes "inline-end") value
+
+-- is it an axis?
+abbrev pub is_axis : List Component → Bool
+is_axis value = is_lone_keyword (codes "inline") value || is_lone_keyword (codes "block") value
+
+-- Does a physical property get a value that the flow of the text gives a meaning: `float` and `clear` a side, `resize` an axis (CSS Logical 1, sections 2.2 and 2.4)?
+abbrev pub is_flow_value : List ℕ → List Component → Bool
+is_flow_value name value =
+    ((is_text name (codes "float") || is_text name (codes "clear")) && is_side value)
+    || (is_text name (codes "resize") && is_axis value)
+
+-- is it a property that older browsers know, and so not `composes` of CSS Modules, and no logical one?
+abbrev pub is_old_property : List ℕ → Bool
+is_old_property name = not (is_text name (codes "composes")) && not (is_logical name)
+
+-- Do older browsers know the declaration: is its property such a one, without such a value?
+abbrev pub is_old_declaration : Declaration → Bool
+is_old_declaration d = is_old_property d.name && not (is_flow_value d.name d.value)
+
 -- Rules.
 
 -- is there something in the list?
 abbrev pub has_some : {A : Type 0} → List A → Bool
 has_some [] = false
 has_some (x ∷ xs) = true
-
--- is it a declaration that browsers know of, and so not `composes` of CSS Modules?
-abbrev pub is_old_declaration : Declaration → Bool
-is_old_declaration d = not (is_text (codes "composes") d.name)
 
 -- an item of a style rule's block: declarations, and no rule
 abbrev pub is_run : Item-F Item style.Style → Bool

@@ -2,11 +2,11 @@
 
 ghost use Rattle.std.specs.Prelude.{◌≡◌, [], ◌∷◌, false, true};
 ghost use Rattle.css_rules.specs.Samples.{unmarked};
-ghost use Rattle.selector_types.specs.Samples.{attribute, class, flagged, one, only, part_at, pseudo, typed, untyped};
+ghost use Rattle.selector_types.specs.Samples.{attribute, class, comment, flagged, ident, laid, one, only, part_at, pseudo, space, typed, untyped};
 ghost use Rattle.selector_types.specs.declared.selector.Simple as simple;
 ghost use Rattle.selector_types.specs.declared.selector.Test.TheVariants.{Has};
 ghost use Rattle.target_check.specs.Samples.{nested_in, rule_of, sheet_of_rule};
-ghost use Rattle.target_check.specs.Targets.{is_old_selector, is_old_simple, is_target};
+ghost use Rattle.target_check.specs.Targets.{is_old_declaration, is_old_selector, is_old_simple, is_target};
 
 /// Which simple selectors older browsers read.
 pub fn simple_selectors()
@@ -26,11 +26,33 @@ pub fn simple_selectors()
     ensures flag_within { is_old_selector (only (simple.Not (only (simple.Attribute (flagged "a" Has "")) ∷ []))) ≡ false }
 {}
 
+/// Which declarations older browsers know: no logical property, and no keyword of the flow alone where the property takes one.
+#[tactic(auto, using(crate::proofs::Computing::computing))]
+pub fn declarations()
+    ensures physical_property { is_old_declaration (unmarked 0 "margin-left" []) ≡ true }
+    ensures logical_property { is_old_declaration (unmarked 0 "margin-inline" []) ≡ false }
+    ensures short_for_physical { is_old_declaration (unmarked 0 "inset" []) ≡ false }
+    ensures custom { is_old_declaration (unmarked 0 "--margin-inline" []) ≡ true }
+    ensures composes { is_old_declaration (unmarked 0 "composes" []) ≡ false }
+    ensures physical_side { is_old_declaration (unmarked 0 "float" (laid 0 (ident "left" ∷ []))) ≡ true }
+    ensures side { is_old_declaration (unmarked 0 "float" (laid 0 (ident "inline-start" ∷ []))) ≡ false }
+    ensures side_in_any_case { is_old_declaration (unmarked 0 "clear" (laid 0 (ident "INLINE-end" ∷ []))) ≡ false }
+    ensures escaped_side { is_old_declaration (unmarked 0 "clear" (laid 0 (ident "inline-e\\6e d" ∷ []))) ≡ false }
+    ensures side_among_gaps { is_old_declaration (unmarked 0 "float" (laid 0 (comment ∷ space ∷ ident "inline-start" ∷ comment ∷ []))) ≡ false }
+    ensures two_sides { is_old_declaration (unmarked 0 "float" (laid 0 (ident "inline-start" ∷ space ∷ ident "inline-end" ∷ []))) ≡ true }
+    ensures axis { is_old_declaration (unmarked 0 "resize" (laid 0 (ident "block" ∷ []))) ≡ false }
+    ensures inline_axis { is_old_declaration (unmarked 0 "resize" (laid 0 (ident "inline" ∷ []))) ≡ false }
+    ensures axis_of_float { is_old_declaration (unmarked 0 "float" (laid 0 (ident "inline" ∷ []))) ≡ true }
+    ensures side_of_resize { is_old_declaration (unmarked 0 "resize" (laid 0 (ident "inline-start" ∷ []))) ≡ true }
+    ensures other_property { is_old_declaration (unmarked 0 "display" (laid 0 (ident "block" ∷ []))) ≡ true }
+{}
+
 /// Which sheets are target sheets.
 pub fn sheets()
     ensures rule { is_target (sheet_of_rule (rule_of (only (class "a") ∷ []) (unmarked 0 "b" [] ∷ []))) ≡ true }
     ensures younger_selector { is_target (sheet_of_rule (rule_of (only (class "a") ∷ only simple.Foreign ∷ []) (unmarked 0 "b" [] ∷ []))) ≡ false }
     ensures empty_rule { is_target (sheet_of_rule (rule_of (only (class "a") ∷ []) [])) ≡ false }
     ensures composes { is_target (sheet_of_rule (rule_of (only (class "a") ∷ []) (unmarked 0 "composes" [] ∷ []))) ≡ false }
+    ensures logical_property { is_target (sheet_of_rule (rule_of (only (class "a") ∷ []) (unmarked 0 "b" [] ∷ unmarked 0 "inset" [] ∷ []))) ≡ false }
     ensures nested_rule { is_target (sheet_of_rule (nested_in (only (class "a") ∷ []) (rule_of (one (typed "b" []) ∷ []) (unmarked 0 "c" [] ∷ [])))) ≡ false }
 {}

@@ -3,15 +3,10 @@ ghost use Rattle.std.specs.Prelude.{◌≡◌};
 ghost use Rattle.css_rules.specs.declared.sheet.Item as the_item;
 ghost use Rattle.target_check.specs.Targets.{declares, is_old_declaration, is_old_rule, is_old_selector, is_old_style, is_run, is_target};
 
+use crate::declaration::is_old_declaration;
 use crate::selector::is_old_selector;
 use css_rules::{Declaration, Item, Sheet, Style};
 use selector_tree::Selector;
-
-fn is_old_declaration(declaration: &Declaration) -> bool
-    ensures { result ≡ is_old_declaration declaration.now }
-{
-    declaration.name.as_str() != "composes"
-}
 
 fn are_old(declarations: &[Declaration]) -> bool
     ensures { result ≡ list_all is_old_declaration declarations.now }
@@ -76,7 +71,9 @@ fn is_old_rule(item: &Item) -> bool
 }
 
 /// Whether a sheet is a target sheet: it holds style rules alone, each declares something and holds no rule, and each selector
-/// is one of Selectors 3, but for pseudo-classes and pseudo-elements of any name without an argument. Takes no memory.
+/// is one of Selectors 3, but for pseudo-classes and pseudo-elements of any name without an argument. No declaration is
+/// `composes`, a logical property (CSS Logical 1, section 4), or `float`, `clear` or `resize` with a flow-relative keyword alone
+/// (sections 2.2 and 2.4). Takes no memory.
 pub fn is_target(sheet: &Sheet) -> bool
     ensures { result ≡ is_target sheet.now }
 {

@@ -14,5 +14,8 @@ returns-clause-empty_rule c = simp computing (search (rules, computing))
 pub returns-clause-composes : goal.returns-clause-composes
 returns-clause-composes c = simp computing (search (rules, computing))
 
+pub returns-clause-logical_property : goal.returns-clause-logical_property
+returns-clause-logical_property c = simp computing (search (rules, computing))
+
 pub returns-clause-nested_rule : goal.returns-clause-nested_rule
 returns-clause-nested_rule c = simp computing (search (rules, computing))
