@@ -30,7 +30,8 @@ use Rattle.media_tree.specs.declared.sign.Sign.TheVariants.{Gap, Comma, Not, Onl
 use Rattle.media_spelling.specs.Components.{colon, delim, ident, single, space}
 use Rattle.media_tree.specs.ComponentInduction.{by_components}
 use Rattle.media_tree.specs.Conditions.{condition_of, kind_sign, name_sign, solid, token_sign, within}
-use Rattle.media_tree.specs.Features.{begins_equals, behind_one, behind_separator, boolean, feature_of, front_length, front_of, interval, is_equals_mark, is_range_name, is_same_way, is_separator, is_separator_mark, lone_name, name_in, one_bound, plain, ranged, ray, rest_of, sections, separator_at, separator_of, takes_equals, value_in, value_of}
+use Rattle.prop_table.specs.OldFeatures.{is_range_feature}
+use Rattle.media_tree.specs.Features.{begins_equals, behind_one, behind_separator, boolean, feature_of, front_length, front_of, interval, is_equals_mark, is_same_way, is_separator, is_separator_mark, lone_name, name_in, one_bound, plain, ranged, ray, rest_of, sections, separator_at, separator_of, takes_equals, value_in, value_of}
 use Rattle.media_tree.specs.Marks.{is_gap, layer_mark, layer_name, lowered, mark_of, token_mark, trimmed, trimmed_end, trimmed_start}
 use Rattle.media_tree.specs.Queries.{block_sign, inside_of, is_parens, makes, sign_of}
 use Rattle.media_tree.specs.ReadableQueries.{are_readable_bounds, is_lower_name, is_readable_feature, is_readable_option, is_readable_range, is_readable_value, is_some_text, is_value_part, layer_is_parens}
@@ -337,7 +338,7 @@ module _ (means : (n : List ℕ) → is_name n ≡ true → name_of_word kinds.I
   feature-quiet n None k = name-quiet-alone n
   feature-quiet n (Some v) k = quiet-more (ident n ∷ []) (colon ∷ text_components v) (name-quiet-alone n) (quiet-more (colon ∷ []) (text_components v) (ap (λ (b : Bool). b || false) (single-quiet kinds.Colon (codes ":"))) (value-read v k).quiet)
 
-  ray-read : (n : List ℕ) (b : Bound) → is_range_name n ≡ true → is_lower_name n ≡ true → IsValue (text_components b.value) b.value → feature_of (ident n ∷ bound_behind b) ≡ Some (condition.Range (record { name = n; first = b; second = None }))
+  ray-read : (n : List ℕ) (b : Bound) → is_range_feature n ≡ true → is_lower_name n ≡ true → IsValue (text_components b.value) b.value → feature_of (ident n ∷ bound_behind b) ≡ Some (condition.Range (record { name = n; first = b; second = None }))
   ray-read n b range h value =
       (let cs = text_components b.value in
       let made : Condition = condition.Range (record { name = n; first = b; second = None }) in
@@ -349,7 +350,7 @@ module _ (means : (n : List ℕ) → is_name n ≡ true → name_of_word kinds.I
   bound-quiet : (b : Bound) → IsValue (text_components b.value) b.value → list_any is_within (map sign_of (bound_behind b)) ≡ false
   bound-quiet b value = quiet-more (relation_spelling b.relation) (text_components b.value) (relation-quiet b.relation) value.quiet
 
-  interval-read : (n : List ℕ) (a b : Bound) → is_range_name n ≡ true → is_lower_name n ≡ true → IsValue (text_components a.value) a.value → IsValue (text_components b.value) b.value → is_same_way (turned a.relation) b.relation ≡ true
+  interval-read : (n : List ℕ) (a b : Bound) → is_range_feature n ≡ true → is_lower_name n ≡ true → IsValue (text_components a.value) a.value → IsValue (text_components b.value) b.value → is_same_way (turned a.relation) b.relation ≡ true
       → feature_of (bound_before a ++ ident n ∷ bound_behind b) ≡ Some (condition.Range (record { name = n; first = a; second = Some b }))
   interval-read n a b range h low high way =
       (let low_cs = text_components a.value ++ space_behind a.value in
@@ -369,7 +370,7 @@ module _ (means : (n : List ℕ) → is_name n ≡ true → name_of_word kinds.I
       ∙ ap (λ (t : Bool). if t then Some (made (turned r)) else None) way
       ∙ ap (λ (q : Relation). Some (made q)) (turned-twice a.relation))
 
-  bounds-again : (n : List ℕ) (a : Bound) (second : Option Bound) → is_range_name n ≡ true → is_lower_name n ≡ true → are_readable_bounds a second ≡ true
+  bounds-again : (n : List ℕ) (a : Bound) (second : Option Bound) → is_range_feature n ≡ true → is_lower_name n ≡ true → are_readable_bounds a second ≡ true
       → feature_of (bounds_spelling n a second) ≡ Some (condition.Range (record { name = n; first = a; second = second }))
   bounds-again n a None range h k = ray-read n a range h (value-read a.value k)
   bounds-again n a (Some b) range h k =
@@ -397,7 +398,7 @@ module _ (means : (n : List ℕ) → is_name n ≡ true → name_of_word kinds.I
         (let p = and_parts (is_lower_name f.name) (is_readable_option f.value) r in
         feature-sign (ident f.name ∷ feature_value f.value) (condition.Feature f) (no-condition (ident f.name ∷ feature_value f.value) (feature-quiet f.name f.value p.1)) (feature-again f.name f.value p.0 p.1));
     range = λ f r.
-        (let p = and_parts (is_range_name f.name) (is_lower_name f.name && are_readable_bounds f.first f.second) r in
+        (let p = and_parts (is_range_feature f.name) (is_lower_name f.name && are_readable_bounds f.first f.second) r in
         let q = and_parts (is_lower_name f.name) (are_readable_bounds f.first f.second) p.1 in
         feature-sign (bounds_spelling f.name f.first f.second) (condition.Range f) (no-condition (bounds_spelling f.name f.first f.second) (bounds-quiet f.name f.first f.second q.1)) (bounds-again f.name f.first f.second p.0 q.0 q.1));
   }

@@ -13,3 +13,10 @@ pub mod DeclarationsAgain
 pub mod TreePlaces
 pub mod QueryPlaces
 pub mod TextLemmas
+pub mod LowerNames
+pub mod ReadConditions
+pub mod PartsOfTexts
+pub mod SupportsReadable
+pub mod SupportsPlaces
+pub mod QueriesBegin
+pub mod SupportsBegin

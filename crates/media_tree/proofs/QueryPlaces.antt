@@ -8,14 +8,12 @@ use Rattle.std.proofs.lemmas.List.{length-map, take-map, drop-map}
 use Rattle.css_tokens.specs.declared.kind.Kind.{Kind}
 use Rattle.css_tokens.specs.declared.kind.Kind.TheVariants as kinds
 use Rattle.css_tokens.specs.declared.component.Component.{Component, out-Component}
-use Rattle.css_tokens.specs.declared.component.Component as component
 use Rattle.css_tokens.specs.declared.component.Component.TheOpen.{Single, Block}
 use Rattle.css_tokens.specs.declared.component.Component.TheVariants.{outs-Single, outs-Block}
 use Rattle.css_tokens.specs.declared.component.Block as block
 use Rattle.css_tokens.specs.Piece.{Piece, Word, spelled}
 use Rattle.css_tokens.specs.Values.{printed_words}
 use Rattle.media_spelling.specs.declared.condition.Condition.{Condition}
-use Rattle.media_spelling.specs.declared.condition.Query.{Query}
 use Rattle.media_tree.specs.declared.mark.Mark.{Mark}
 use Rattle.media_tree.specs.declared.mark.Separator.{Separator}
 use Rattle.media_tree.specs.declared.mark.Separator.TheVariants as separators
@@ -23,10 +21,10 @@ use Rattle.media_spelling.specs.declared.condition.Relation.{Relation}
 use Rattle.media_tree.specs.declared.sign.Sign.{Sign}
 use Rattle.media_tree.specs.declared.sign.Sign.TheVariants.{Other}
 use Rattle.media_tree.specs.ComponentInduction.{Each, by_components}
-use Rattle.media_tree.specs.Conditions.{condition_of, solid, token_sign, within}
-use Rattle.media_tree.specs.Features.{begins_equals, behind_one, behind_separator, block_value, feature_of, front_length, front_of, gap_length, gap_text, goes_unseen, in_utf8, interval, is_equals_mark, is_separator, is_separator_mark, is_slash_mark, is_solid, layer_number, layer_value, lone_name, name_in, number_text, one_bound, plain, boolean, ranged, ratio, ratio_behind, ratio_end, ray, rest_of, sections, separator_at, separator_of, single_value, takes_equals, value_in, value_of}
+use Rattle.media_tree.specs.Conditions.{condition_of, solid, within}
+use Rattle.media_tree.specs.Features.{begins_equals, behind_one, behind_separator, block_value, feature_of, front_length, front_of, gap_length, gap_text, goes_unseen, in_utf8, interval, is_equals_mark, is_separator, is_separator_mark, is_slash_mark, is_solid, layer_number, layer_value, lone_name, name_in, number_text, plain, boolean, ranged, ratio, ratio_behind, ratio_end, ray, rest_of, sections, separator_at, separator_of, single_value, takes_equals, value_in, value_of}
 use Rattle.media_tree.specs.Marks.{Layer, ident_name, is_gap, is_gap_mark, is_white, is_white_mark, layer_mark, layer_name, mark_of, trimmed, trimmed_end, trimmed_start}
-use Rattle.media_tree.specs.Queries.{block_sign, inside_of, is_parens, makes, queries_of, queries_reading, sign_of}
+use Rattle.media_tree.specs.Queries.{block_sign, is_parens, makes, queries_of, queries_reading, sign_of}
 use Rattle.media_spelling.specs.Spelling.{turned}
 use Rattle.media_tree.proofs.SignEquations.{query-Single, query-Block}
 use Rattle.media_tree.proofs.TreePlaces.{bare, bare-Single, bare-Block, bare_block, every, placeless, words-bare}
@@ -34,14 +32,14 @@ use Rattle.media_tree.proofs.TreePlaces.{bare, bare-Single, bare-Block, bare_blo
 -- Single components.
 
 -- what looks at a layer's kinds and texts alone looks at no place
-layer-bare : {A : Type 0} (look : Layer → A) → ((p : Piece) → look (Single (placeless p)) ≡ look (Single p)) → ((b : block.Block) → look (Block (bare_block b)) ≡ look (Block b)) → (c : Component) → look (out-Component (bare c)) ≡ look (out-Component c)
+pub layer-bare : {A : Type 0} (look : Layer → A) → ((p : Piece) → look (Single (placeless p)) ≡ look (Single p)) → ((b : block.Block) → look (Block (bare_block b)) ≡ look (Block b)) → (c : Component) → look (out-Component (bare c)) ≡ look (out-Component c)
 layer-bare look single blocks c =
     by_components (λ x. look (out-Component (bare x)) ≡ look (out-Component x))
     (λ p. ap (λ (x : Component). look (out-Component x)) (bare-Single p) ∙ ap look (outs-Single (placeless p)) ∙ single p ∙ ap look (sym (outs-Single p)))
     (λ b each. ap (λ (x : Component). look (out-Component x)) (bare-Block b) ∙ ap look (outs-Block (bare_block b)) ∙ blocks b ∙ ap look (sym (outs-Block b)))
     c
 
-mark-bare : (c : Component) → mark_of (bare c) ≡ mark_of c
+pub mark-bare : (c : Component) → mark_of (bare c) ≡ mark_of c
 mark-bare c = layer-bare layer_mark (λ p. refl) (λ b. refl) c
 
 name-bare : (c : Component) → ident_name (bare c) ≡ ident_name c
@@ -78,7 +76,7 @@ choice : (b : Bool) (xs ys : List Component) → (if b then map bare xs else map
 choice true xs ys = refl
 choice false xs ys = refl
 
-start-bare : (cs : List Component) → trimmed_start (map bare cs) ≡ map bare (trimmed_start cs)
+pub start-bare : (cs : List Component) → trimmed_start (map bare cs) ≡ map bare (trimmed_start cs)
 start-bare [] = refl
 start-bare (c ∷ cs) =
     ap (λ (b : Bool). if b then trimmed_start (map bare cs) else bare c ∷ map bare cs) (gap-bare c)
@@ -92,7 +90,7 @@ end-bare (c ∷ cs) =
     ∙ ap (λ (xs : List Component). if list_all is_gap (c ∷ cs) then [] else bare c ∷ xs) (end-bare cs)
     ∙ choice (list_all is_gap (c ∷ cs)) [] (c ∷ trimmed_end cs)
 
-trimmed-bare : (cs : List Component) → trimmed (map bare cs) ≡ map bare (trimmed cs)
+pub trimmed-bare : (cs : List Component) → trimmed (map bare cs) ≡ map bare (trimmed cs)
 trimmed-bare cs = ap trimmed_end (start-bare cs) ∙ end-bare (trimmed_start cs)
 
 position-bare : (t : Component → Bool) → ((c : Component) → t (bare c) ≡ t c) → (i : ℕ) (cs : List Component) → position_from t i (map bare cs) ≡ position_from t i cs
@@ -140,7 +138,7 @@ value-of-bare [] = refl
 value-of-bare (c ∷ []) = value-bare c
 value-of-bare (c ∷ d ∷ cs) = ap (λ (o : Option (List ℕ)). ratio o (map bare (d ∷ cs))) (number-bare c) ∙ ratio-bare (number_text c) (d ∷ cs)
 
-value-in-bare : (cs : List Component) → value_in (map bare cs) ≡ value_in cs
+pub value-in-bare : (cs : List Component) → value_in (map bare cs) ≡ value_in cs
 value-in-bare cs = ap value_of (trimmed-bare cs) ∙ value-of-bare (trimmed cs)
 
 lone-bare : (cs : List Component) → lone_name (map bare cs) ≡ lone_name cs
@@ -153,7 +151,7 @@ name-in-bare cs = ap lone_name (trimmed-bare cs) ∙ lone-bare (trimmed cs)
 
 -- Sections.
 
-separator-bare : (c : Component) → is_separator (bare c) ≡ is_separator c
+pub separator-bare : (c : Component) → is_separator (bare c) ≡ is_separator c
 separator-bare c = ap is_separator_mark (mark-bare c)
 
 length-bare : (cs : List Component) → front_length (map bare cs) ≡ front_length cs

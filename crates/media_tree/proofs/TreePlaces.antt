@@ -1,14 +1,15 @@
 -- Components with each place at 0: those that have the same words are the same.
-use Rattle.std.proofs.Common.{◌≡◌, ℕ, List, [], ◌∷◌, ◌++◌, map, Bool, true, false, ◌&&◌, refl, sym, ◌∙◌, ap, IsTrue}
+use Rattle.std.proofs.Common.{◌≡◌, List, [], ◌∷◌, ◌++◌, map, ◌&&◌, refl, sym, ◌∙◌, ap, IsTrue}
 use Rattle.std.proofs.lemmas.List.{map-append}
 use Rattle.css_tokens.specs.declared.component.Component.{Component}
 use Rattle.css_tokens.specs.declared.component.Component as component
 use Rattle.css_tokens.specs.declared.component.Block as block
 use Rattle.css_tokens.specs.declared.component.Component.TheFolds.{fold-Component, fold_out-Component}
-use Rattle.css_tokens.specs.declared.component.Component.TheOpen.{Component-F, Single, Block, Block-F}
+use Rattle.css_tokens.specs.declared.component.Component.TheOpen.{Component-F}
 use Rattle.css_tokens.specs.declared.component.Component.TheVariants.{outs-Single, outs-Block}
 use Rattle.css_tokens.specs.Piece.{Piece, Word, word_of}
 use Rattle.media_tree.specs.ComponentInduction.{Each, by_components}
+pub use Rattle.media_tree.specs.Places.{bare, block_bare, component_bare, placeless}
 use Rattle.css_tokens.specs.Trees.{opens, closing, pieces_of, pieces_all, words_all, is_formed, all_formed, pieces_of-Single, pieces_of-Block, is_formed-Single, is_formed-Block}
 
 pub every : (P : Component → Type 0) → ((c : Component) → P c) → (cs : List Component) → Each P cs
@@ -16,20 +17,6 @@ every P holds [] = tt
 every P holds (c ∷ cs) = (holds c, every P holds cs)
 
 -- Places at 0.
-
-abbrev pub placeless : Piece → Piece
-placeless p = record { kind = p.kind; text = p.text; at = 0 }
-
-abbrev component_bare : Component-F Component block.Block → Component
-component_bare (Single token) = component.Single (placeless token)
-component_bare (Block b) = component.Block b
-
-abbrev block_bare : Block-F Component block.Block → block.Block
-block_bare b = record { opening = placeless b.opening; items = b.items; close = 0 }
-
--- the component with each place at 0
-abbrev pub bare : Component → Component
-bare = fold-Component Component block.Block component_bare block_bare
 
 abbrev pub bare_block : block.Block → block.Block
 bare_block b = record { opening = placeless b.opening; items = map bare b.items; close = 0 }
@@ -91,7 +78,7 @@ formed-block b each = ap is_formed (bare-Block b) ∙ is_formed-Block (bare_bloc
 formed-bare : (c : Component) → StaysFormed c
 formed-bare = by_components StaysFormed (λ p. ap is_formed (bare-Single p) ∙ is_formed-Single (placeless p) ∙ sym (is_formed-Single p)) formed-block
 
-all_formed-bare : (cs : List Component) → all_formed (map bare cs) ≡ all_formed cs
+pub all_formed-bare : (cs : List Component) → all_formed (map bare cs) ≡ all_formed cs
 all_formed-bare cs = formed-each cs (every StaysFormed formed-bare cs)
 
 -- what is ensured of tokens: they make one list of components at most

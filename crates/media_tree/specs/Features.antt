@@ -19,6 +19,7 @@ use Rattle.media_tree.specs.declared.mark.Separator.{Separator}
 use Rattle.media_tree.specs.declared.mark.Separator.TheVariants as separators
 use Rattle.media_tree.specs.Marks.{Layer, ident_name, is_gap, is_white, mark_of, trimmed, trimmed_start}
 use Rattle.media_spelling.specs.Spelling.{turned}
+use Rattle.prop_table.specs.OldFeatures.{is_range_feature}
 
 -- Values.
 
@@ -190,16 +191,6 @@ behind_separator (c ∷ cs) = if takes_equals (mark_of c) (begins_equals cs) the
 
 -- Features.
 
--- the features that take a range
-abbrev pub range_names : List (List ℕ)
-range_names =
-    codes "width" ∷ codes "height" ∷ codes "device-width" ∷ codes "device-height" ∷ codes "aspect-ratio" ∷ codes "device-aspect-ratio"
-    ∷ codes "color" ∷ codes "color-index" ∷ codes "monochrome" ∷ codes "resolution" ∷ []
-
--- does the feature of this name take a range?
-abbrev pub is_range_name : List ℕ → Bool
-is_range_name name = list_any (is_text name) range_names
-
 -- a feature in the boolean context
 abbrev pub boolean : Option (List ℕ) → Option Condition
 boolean None = None
@@ -215,7 +206,7 @@ plain (Some name) (Some value) = Some (condition.Feature (record { name = name; 
 abbrev pub ray : Option (List ℕ) → Relation → Option (List ℕ) → Option Condition
 ray None r value = None
 ray (Some name) r None = None
-ray (Some name) r (Some value) = if is_range_name name then Some (condition.Range (record { name = name; first = record { relation = r; value = value }; second = None })) else None
+ray (Some name) r (Some value) = if is_range_feature name then Some (condition.Range (record { name = name; first = record { relation = r; value = value }; second = None })) else None
 
 -- The name stands before the relation where it may, and else behind it.
 abbrev pub one_bound : List Component → Relation → List Component → Option Condition
@@ -243,7 +234,7 @@ interval None r name s high = None
 interval (Some low) r None s high = None
 interval (Some low) r (Some name) s None = None
 interval (Some low) r (Some name) s (Some high) =
-    if is_range_name name && is_same_way r s
+    if is_range_feature name && is_same_way r s
     then Some (condition.Range (record { name = name; first = record { relation = turned r; value = low }; second = Some (record { relation = s; value = high }) }))
     else None
 

@@ -9,3 +9,5 @@ pub mod SupportsReading
 pub mod Faults
 pub mod ReadableQueries
 pub mod SupportsAgain
+pub mod SpelledWords
+pub mod Places

@@ -13,9 +13,10 @@ use Rattle.media_spelling.specs.declared.condition.Prefix.TheVariants as prefixe
 use Rattle.media_spelling.specs.declared.condition.Query.{Query}
 use Rattle.media_spelling.specs.declared.condition.Range.{Range}
 use Rattle.media_spelling.specs.ConditionFold.{Steps, folded}
-use Rattle.media_tree.specs.Features.{is_range_name, is_same_way, is_separator, value_in}
+use Rattle.media_tree.specs.Features.{is_same_way, is_separator, value_in}
 use Rattle.media_tree.specs.Marks.{Layer, lowered}
 use Rattle.media_tree.specs.Queries.{is_parens}
+use Rattle.prop_table.specs.OldFeatures.{is_range_feature}
 use Rattle.media_spelling.specs.Spelling.{turned}
 use Rattle.media_spelling.specs.TextComponents.{text_components}
 
@@ -57,7 +58,7 @@ are_readable_bounds first (Some second) = is_readable_value first.value && (is_r
 
 -- a feature in the range context
 abbrev pub is_readable_range : Range → Bool
-is_readable_range r = is_range_name r.name && (is_lower_name r.name && are_readable_bounds r.first r.second)
+is_readable_range r = is_range_feature r.name && (is_lower_name r.name && are_readable_bounds r.first r.second)
 
 -- are there two or more?
 abbrev pub has_two : List Bool → Bool

@@ -1,5 +1,5 @@
 -- Supports conditions as they are read again, and which of them are (Conditional Rules 3, section 6).
-use Rattle.std.specs.Prelude.{ℕ, List, [], ◌∷◌, Bool, false, ◌&&◌}
+use Rattle.std.specs.Prelude.{ℕ, List, Bool, true, false, ◌&&◌}
 use Rattle.std.specs.List.{list_all}
 use Rattle.css_tokens.specs.declared.component.Component.{Component}
 use Rattle.css_tokens.specs.Names.{is_name}
@@ -42,3 +42,17 @@ readable = record {
 -- a supports condition
 abbrev pub is_readable_supports : Supports → Bool
 is_readable_supports = folded readable
+
+-- Does no function stand in it?
+abbrev pub functionless : Steps Bool
+functionless = record {
+  and_of = λ bs. list_all (λ b. b) bs;
+  or_of = λ bs. list_all (λ b. b) bs;
+  not_of = λ b. b;
+  declared = λ name value. true;
+  function = λ at. false;
+}
+
+-- a supports condition without functions
+abbrev pub has_no_function : Supports → Bool
+has_no_function = folded functionless

@@ -6,7 +6,7 @@ ghost use Rattle.media_spelling.specs.declared.condition.Condition as condition;
 ghost use Rattle.media_spelling.specs.declared.condition.Prefix.TheVariants.{Plain, Not, Only};
 ghost use Rattle.media_spelling.specs.declared.condition.Relation.TheVariants.{Less, LessEqual, Greater, Equal};
 ghost use Rattle.media_spelling.specs.declared.supports.Supports as supports;
-ghost use Rattle.media_tree.specs.Features.{is_range_name};
+ghost use Rattle.prop_table.specs.OldFeatures.{is_range_feature};
 ghost use Rattle.media_tree.specs.Queries.{queries_reading};
 ghost use Rattle.media_spelling.specs.Samples.{bare, bound, braces, call, colon, comma, comment, declared, delim, dimension, ident, interval, media, media_and, number, only_if, parens, ray, semicolon, source, space, token, valued};
 ghost use Rattle.media_tree.specs.SupportsReading.{supports_reading};
@@ -71,8 +71,8 @@ pub fn no_features()
     ensures percentage { queries_reading (source (parens (ident "width" ∷ colon ∷ token kinds.Percentage "5%" ∷ []) ∷ [])) ≡ None }
     ensures ratio_of_dimensions { queries_reading (source (parens (ident "width" ∷ colon ∷ dimension "5px" ∷ delim "/" ∷ number "9" ∷ []) ∷ [])) ≡ None }
     ensures value_alone { queries_reading (source (parens (dimension "5px" ∷ []) ∷ [])) ≡ None }
-    ensures monochrome { is_range_name (codes "monochrome") ≡ true }
-    ensures orientation { is_range_name (codes "orientation") ≡ false }
+    ensures monochrome { is_range_feature (codes "monochrome") ≡ true }
+    ensures orientation { is_range_feature (codes "orientation") ≡ false }
 {}
 
 /// What supports conditions say.

@@ -1,7 +1,7 @@
 //! Media features, read from the component values in parentheses (Media Queries 4, section 3).
 
 ghost use Rattle.css_tokens.specs.Values.{value_text};
-ghost use Rattle.media_tree.specs.Features.{begins_equals, behind_one, behind_separator, boolean, feature_of, front_length, gap_length, gap_text, goes_unseen, in_utf8, interval, is_range_name, is_rising, is_falling, is_same_way, is_separator, is_solid, lone_name, name_in, number_text, one_bound, plain, ranged, ratio, ratio_behind, ratio_end, ray, sections, separator_at, separator_of, single_value, takes_equals, token_number, token_value, value_in, value_of, with_equals};
+ghost use Rattle.media_tree.specs.Features.{begins_equals, behind_one, behind_separator, boolean, feature_of, front_length, gap_length, gap_text, goes_unseen, in_utf8, interval, is_rising, is_falling, is_same_way, is_separator, is_solid, lone_name, name_in, number_text, one_bound, plain, ranged, ratio, ratio_behind, ratio_end, ray, sections, separator_at, separator_of, single_value, takes_equals, token_number, token_value, value_in, value_of, with_equals};
 ghost use Rattle.media_tree.specs.Marks.{is_white};
 ghost use Rattle.std.specs.List.{list_any, position};
 ghost use Rattle.std.specs.Option.{option_map};
@@ -10,6 +10,7 @@ ghost use Rattle.std.specs.Prelude.{◌≡◌, ◌++◌, ◌∷◌, ◌≤◌, �
 use crate::mark::{Mark, Separator, ident_name, is_gap, is_white, mark_of, trimmed, trimmed_start};
 use css_tokens::{Component, Kind, List, OutOfMemory, Text, Token, write_value};
 use media_spelling::{Bound, Condition, Feature, Range, Relation, turned};
+use prop_table::is_range_feature;
 use std::alloc::Global;
 use std::{slice, str};
 
@@ -335,25 +336,6 @@ fn behind_separator<'s, 'a>(components: &'s [Component<'a>]) -> &'s [Component<'
     }
 }
 
-/// Whether the feature of this name takes a range.
-fn is_range_name(name: &str) -> bool
-    ensures { result ≡ is_range_name name.now }
-{
-    matches!(
-        name,
-        "width"
-            | "height"
-            | "device-width"
-            | "device-height"
-            | "aspect-ratio"
-            | "device-aspect-ratio"
-            | "color"
-            | "color-index"
-            | "monochrome"
-            | "resolution"
-    )
-}
-
 fn boolean<'a>(name: Option<Text<'a>>) -> Option<Condition<'a>>
     ensures { result ≡ boolean name.entry }
 {
@@ -384,7 +366,7 @@ fn ray<'a>(
 {
     match (name, value) {
         (Some(name), Some(value)) => {
-            if is_range_name(name.as_str()) {
+            if is_range_feature(name.as_str()) {
                 Some(Condition::Range(Range {
                     name,
                     first: Bound { relation, value },
@@ -446,7 +428,7 @@ fn interval<'a>(
 {
     match (low, name, high) {
         (Some(low), Some(name), Some(high)) => {
-            if is_range_name(name.as_str()) && is_same_way(first, second) {
+            if is_range_feature(name.as_str()) && is_same_way(first, second) {
                 Some(Condition::Range(Range {
                     name,
                     first: Bound {

@@ -13,7 +13,10 @@ mod sign;
 mod supports_reading;
 
 pub use fault::MediaFault;
-pub use laws::{places_of_queries_are_not_read, queries_are_read_again, supports_are_read_again};
+pub use laws::{
+    places_of_queries_are_not_read, places_of_supports_are_not_read, queries_are_read_again,
+    supports_are_read_again, supports_that_are_read_are_readable, texts_begin_solid,
+};
 pub use media_spelling::{
     Bound, Condition, Feature, Prefix, Query, Range, Relation, Supports, Value,
     queries_stand_in_a_prelude, supports_stand_in_a_prelude, write_queries, write_supports,
