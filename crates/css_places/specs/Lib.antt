@@ -1,0 +1,5 @@
+pub mod Parts
+pub mod Walks
+pub mod Schemes
+pub mod Resolving
+pub mod Rebasing
