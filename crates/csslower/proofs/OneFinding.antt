@@ -1,5 +1,5 @@
 -- At most one finding stands against a text, and none where the text is accepted.
-use Rattle.std.proofs.Common.{◌≡◌, ℕ, ◌+◌, List, [], ◌∷◌, Option, Some, None, MatchOption, length, map, refl, ap, sym, ◌∙◌, inl, inr, subst, option_map, IsTrue}
+use Rattle.std.proofs.Common.{◌≡◌, ℕ, ◌+◌, List, [], ◌∷◌, Some, length, map, refl, ap, sym, ◌∙◌, inl, inr, subst, option_map, IsTrue}
 use Rattle.css_tokens.specs.declared.component.Component.{Component}
 use Rattle.css_tokens.specs.declared.kind.Kind.{Kind}
 use Rattle.css_tokens.specs.declared.pairing.ComponentFault.{ComponentFault}

@@ -1,21 +1,16 @@
 -- What is printed from a sheet in which all can be expressed is read as a target sheet.
-use Rattle.std.proofs.Common.{◌≡◌, ℕ, List, [], ◌∷◌, ◌++◌, map, flat_map, Bool, true, false, ◌&&◌, ◌||◌, not, refl, sym, ◌∙◌, ap, subst, IsTrue, Some, codes}
+use Rattle.std.proofs.Common.{◌≡◌, ℕ, List, [], ◌∷◌, ◌++◌, map, Bool, true, false, ◌&&◌, ◌||◌, refl, sym, ◌∙◌, ap, subst, IsTrue, Some}
 use Rattle.std.specs.List.{list_all, list_any, AllByRecursion}
 use Rattle.std.proofs.lemmas.List.{append-nil}
 use Rattle.std.proofs.lemmas.List.Elements.{filter_map-append}
-use Rattle.std.proofs.lemmas.Slice.Eq.{bytes_eq-Decides}
-use Rattle.css_tokens.specs.Trees.{is_text}
 use Rattle.css_tokens.specs.declared.component.Component.{Component}
 use Rattle.selector_types.specs.Erased.{erased}
 use Rattle.selector_types.specs.PartsWithin.{list_parts}
 use Rattle.selector_types.specs.declared.selector.Part.{Part}
 use Rattle.selector_types.specs.declared.selector.Selector.{Selector}
-use Rattle.css_rules.specs.BareRules.{bare_rule, bare_rules, rule_of_run}
-use Rattle.css_rules.specs.Contexts.{Context, outside, under_list}
+use Rattle.css_rules.specs.BareItems.{bared, bare_item, bare_items, bare_item-Plain, bare_item-Style, filled_item, filled_items, filled_item-Plain, filled_item-Style, rule_round}
 use Rattle.css_rules.specs.PlainRules.{IsPlainRule, is_unled, none_waits}
 use Rattle.css_rules.specs.Printable.{all_whole}
-use Rattle.css_rules.specs.Refusals.{has_sought, is_unbuilt_property, sought_for}
-use Rattle.css_rules.specs.Runs.{Run, BareRun, bare_declaration, bare_run, runs_of, runs_within, runs_within-Plain, runs_within-Style}
 use Rattle.css_rules.specs.SheetTexts.{sheet_text}
 use Rattle.css_rules.specs.Sheets.{is_unbuilt, run_of, sheet_of}
 use Rattle.css_rules.specs.declared.sheet.Declaration.{Declaration}
@@ -33,10 +28,10 @@ use Rattle.csslower.specs.TargetTexts.{IsTargetText}
 -- what the lower crates ensure
 pub record TargetLaws : Type 0 where
   pub again : (source : List ℕ) (sheet : Sheet) → HasSheet source sheet → IsTrue (all_whole sheet) → IsReadAgain source (sheet_text sheet)
-  pub rules : (source : List ℕ) (sheet new : Sheet) → HasSheet source sheet → IsTrue (all_whole sheet) → HasSheet (sheet_text sheet) new → bare_rules new ≡ map rule_of_run (runs_of sheet)
   pub plain : (cs : List Component) (sheet : Sheet) → sheet_of cs ≡ Some sheet → AllByRecursion IsPlainRule sheet.items
   pub whole : (file : ℕ) (sheet : Sheet) → sheet_findings file sheet ≡ [] → IsTrue (all_whole sheet)
   pub old : (file : ℕ) (ss : List Selector) → list_findings file ss ≡ [] → IsTrue (list_all is_unled ss) → IsTrue (none_waits (list_parts ss)) → IsTrue (list_all is_old_selector ss)
+  pub built : (d : Declaration) → is_unbuilt d ≡ false → IsTrue (is_old_declaration d)
   pub alike : (ss ts : List Selector) → map erased ss ≡ map erased ts → list_all is_old_selector ss ≡ list_all is_old_selector ts
 
 -- Lists.
@@ -66,106 +61,101 @@ bare-front ps qs none = front-none (part_findings 0 ps) (part_findings 0 qs) (sy
 bare-back : (ps qs : List Part) → Bare (ps ++ qs) → Bare qs
 bare-back ps qs none = back-none (part_findings 0 ps) (part_findings 0 qs) (sym (filter_map-append (part_finding 0) ps qs) ∙ none)
 
--- Declarations.
+-- Rules, places aside.
 
-first-false : (a b : Bool) → (a || b) ≡ false → a ≡ false
-first-false true b none = none
-first-false false b none = refl
+-- a style rule whose selectors older browsers read, and that has one run of declarations
+record IsOldBare (x : Item) : Type 0 where
+  list : List Selector
+  first : Declaration
+  more : List Declaration
+  is : x ≡ item.Style (record { selectors = map erased list; items = item.Plain (first ∷ more) ∷ []; at = 0 })
+  old : list_all is_old_selector list ≡ true
 
--- `composes` waits for a later stage
-composes-waits : (name : List ℕ) → is_text (codes "composes") name ≡ true → is_unbuilt_property name ≡ true
-composes-waits name is = sym (ap is_unbuilt_property ((bytes_eq-Decides (codes "composes") name).0 is))
-
-declaration-old : (d : Declaration) → is_unbuilt d ≡ false → is_old_declaration d ≡ true
-declaration-old d built = by (is_text (codes "composes") d.name) refl
+-- a rule, places aside
+bare-run : (s : style.Style) (ds : List Declaration) → s.items ≡ run_of ds → bare_item (item.Style s) ≡ item.Style (record { selectors = map erased s.selectors; items = run_of (map bared ds); at = 0 })
+bare-run s ds is =
+    bare_item-Style s
+    ∙ ap (λ (xs : List Item). item.Style (record { selectors = map erased s.selectors; items = bare_items xs; at = 0 })) is
+    ∙ ap (λ (xs : List Item). item.Style (record { selectors = map erased s.selectors; items = xs; at = 0 })) (run ds)
   where
-    by : (b : Bool) → is_text (codes "composes") d.name ≡ b → not b ≡ true
-    by false is = refl
-    by true is =
-        let clash : true ≡ false = sym (composes-waits d.name is) ∙ first-false (is_unbuilt_property d.name) (has_sought (sought_for d.name) d.value) built in
-        absurd (cc clash)
+    run : (ds : List Declaration) → bare_items (run_of ds) ≡ run_of (map bared ds)
+    run [] = refl
+    run (d ∷ ds) = ap (λ (x : Item). x ∷ []) (bare_item-Plain (d ∷ ds))
 
-declarations-old : (ds : List Declaration) → AllByRecursion (λ d. is_unbuilt d ≡ false) ds → list_all is_old_declaration ds ≡ true
-declarations-old [] built = refl
-declarations-old (d ∷ ds) built = both (is_old_declaration d) (list_all is_old_declaration ds) (declaration-old d built.0) (declarations-old ds built.1)
+-- and what of it is printed
+filled-run : (list : List Selector) (ds : List Declaration) → filled_item (item.Style (record { selectors = list; items = run_of ds; at = 0 })) ≡ rule_round list 0 (run_of ds)
+filled-run list ds = filled_item-Style (record { selectors = list; items = run_of ds; at = 0 }) ∙ ap (rule_round list 0) (run ds)
+  where
+    run : (ds : List Declaration) → filled_items (run_of ds) ≡ run_of ds
+    run [] = refl
+    run (d ∷ ds) = append-nil (filled_item (item.Plain (d ∷ ds))) ∙ filled_item-Plain (d ∷ ds)
 
--- The runs of the sheet.
+round-old : (list : List Selector) (ds : List Declaration) → list_all is_old_selector list ≡ true → AllByRecursion IsOldBare (rule_round (map erased list) 0 (run_of (map bared ds)))
+round-old list [] old = tt
+round-old list (d ∷ ds) old = (record { list = list; first = bared d; more = map bared ds; is = refl; old = old }, tt)
 
--- the run stands in one rule, and older browsers read the selectors of that
-abbrev IsOldRun : Run → Type 0
-IsOldRun run = (list : List Selector) × (run.context ≡ under_list (map erased list) outside) × (list_all is_old_selector list ≡ true)
-
-run-old : (list : List Selector) (ds : List Declaration) → list_all is_old_selector list ≡ true → AllByRecursion IsOldRun (flat_map (λ x. runs_within x (under_list (map erased list) outside)) (run_of ds))
-run-old list [] old = tt
-run-old list (d ∷ ds) old =
-    let context = under_list (map erased list) outside in
-    subst (AllByRecursion IsOldRun) (sym (append-nil (runs_within (item.Plain (d ∷ ds)) context) ∙ runs_within-Plain (d ∷ ds) context)) ((list, refl, old), tt)
-
--- the runs of a plain rule
-plain-runs : (s : style.Style) (ds : List Declaration) → s.items ≡ run_of ds → runs_within (item.Style s) outside ≡ flat_map (λ x. runs_within x (under_list (map erased s.selectors) outside)) (run_of ds)
-plain-runs s ds is = runs_within-Style s outside ∙ ap (λ (xs : List Item). flat_map (λ x. runs_within x (under_list (map erased s.selectors) outside)) xs) is
+-- equal rules are equal inside
+same-rule : (s t : style.Style) → item.Style s ≡ item.Style t → s ≡ t
+same-rule s t e = let laid : Style s ≡ Style t = sym (outs-Style s) ∙ ap item.out-Item e ∙ outs-Style t in cc laid
 
 module _ (laws : TargetLaws) where
   rule-old : (s : style.Style) → list_all is_unled s.selectors ≡ true → none_waits (list_parts s.selectors) ≡ true → Bare (item_parts (item.Style s)) → list_all is_old_selector s.selectors ≡ true
   rule-old s unled ready bare =
       laws.old 0 s.selectors (bare-front (list_parts s.selectors) (items_parts s.items) (subst Bare (parts-Style s) bare)) unled ready
 
-  item-old : (x : Item) → IsPlainRule x → Bare (item_parts x) → AllByRecursion IsOldRun (runs_within x outside)
+  item-old : (x : Item) → IsPlainRule x → Bare (item_parts x) → AllByRecursion IsOldBare (filled_item (bare_item x))
   item-old x plain bare =
-      let old = rule-old plain.rule plain.unled plain.ready (subst (λ y. Bare (item_parts y)) plain.is bare) in
-      subst (λ y. AllByRecursion IsOldRun (runs_within y outside)) (sym plain.is)
-      (subst (AllByRecursion IsOldRun) (sym (plain-runs plain.rule plain.declarations plain.run)) (run-old plain.rule.selectors plain.declarations old))
+      let s = plain.rule in
+      let ds = plain.declarations in
+      let old = rule-old s plain.unled plain.ready (subst (λ y. Bare (item_parts y)) plain.is bare) in
+      let printed = ap (λ (y : Item). filled_item (bare_item y)) plain.is ∙ ap filled_item (bare-run s ds plain.run) ∙ filled-run (map erased s.selectors) (map bared ds) in
+      subst (AllByRecursion IsOldBare) (sym printed) (round-old s.selectors ds old)
 
-  runs-old : (xs : List Item) → AllByRecursion IsPlainRule xs → Bare (items_parts xs) → AllByRecursion IsOldRun (flat_map (λ x. runs_within x outside) xs)
-  runs-old [] plain bare = tt
-  runs-old (x ∷ xs) plain bare =
-      each-append IsOldRun (runs_within x outside) (flat_map (λ x. runs_within x outside) xs)
+  items-old : (xs : List Item) → AllByRecursion IsPlainRule xs → Bare (items_parts xs) → AllByRecursion IsOldBare (filled_items (bare_items xs))
+  items-old [] plain bare = tt
+  items-old (x ∷ xs) plain bare =
+      each-append IsOldBare (filled_item (bare_item x)) (filled_items (bare_items xs))
       (item-old x plain.0 (bare-front (item_parts x) (items_parts xs) bare))
-      (runs-old xs plain.1 (bare-back (item_parts x) (items_parts xs) bare))
+      (items-old xs plain.1 (bare-back (item_parts x) (items_parts xs) bare))
 
   -- The rules that are read.
 
-  -- a rule that says a run of old selectors has old selectors, and it is not empty
-  said-old : (s : style.Style) (ds : List Declaration) (run : Run) → s.items ≡ run_of ds → AllByRecursion (λ d. is_unbuilt d ≡ false) ds → IsOldRun run
-      → map bare_run (flat_map (λ x. runs_within x (under_list (map erased s.selectors) outside)) (run_of ds)) ≡ bare_run run ∷ []
-      → is_old_rule (Style s) ≡ true
-  said-old s [] run is built old e = absurd (cc e)
-  said-old s (d ∷ ds) run is built old e =
-      let context : Context = under_list (map erased s.selectors) outside in
-      let said : BareRun = record { context = context; declarations = map bare_declaration (d ∷ ds) } in
-      let same : said ∷ [] ≡ bare_run run ∷ [] = sym (ap (λ (rs : List Run). map bare_run (rs ++ [])) (runs_within-Plain (d ∷ ds) context)) ∙ e in
-      let one : said ≡ bare_run run = cc same in
-      let round : context ≡ under_list (map erased old.0) outside = ap (λ (r : BareRun). r.context) one ∙ old.1 in
-      let chains : map erased s.selectors ∷ [] ≡ map erased old.0 ∷ [] = ap (λ (c : Context). c.chain) round in
-      let lists : map erased s.selectors ≡ map erased old.0 = cc chains in
-      both (list_all is_old_selector s.selectors) _ (laws.alike s.selectors old.0 lists ∙ old.2)
-      (ap (λ (xs : List Item). list_all (λ x. is_run (item.out-Item x)) xs && list_any (λ x. declares (item.out-Item x)) xs) is
-      ∙ both (is_run (item.out-Item (item.Plain (d ∷ ds))) && true) (declares (item.out-Item (item.Plain (d ∷ ds))) || false)
-      (ap (λ v. is_run v && true) (outs-Plain (d ∷ ds)) ∙ both (list_all is_old_declaration (d ∷ ds)) true (declarations-old (d ∷ ds) built) refl)
-      (ap (λ v. declares v || false) (outs-Plain (d ∷ ds))))
+  declarations-old : (ds : List Declaration) → AllByRecursion (λ d. is_unbuilt d ≡ false) ds → list_all is_old_declaration ds ≡ true
+  declarations-old [] built = refl
+  declarations-old (d ∷ ds) built = both (is_old_declaration d) (list_all is_old_declaration ds) (laws.built d built.0) (declarations-old ds built.1)
 
-  item-target : (x : Item) (run : Run) → IsPlainRule x → bare_rule x ≡ rule_of_run run → IsOldRun run → is_old_rule (item.out-Item x) ≡ true
-  item-target x run plain says old =
-      let said = sym (ap bare_rule plain.is ∙ ap (map bare_run) (plain-runs plain.rule plain.declarations plain.run)) ∙ says in
+  -- a rule that is such a one, places aside, has old selectors, and it is not empty
+  read-old : (s : style.Style) (ds : List Declaration) → s.items ≡ run_of ds → AllByRecursion (λ d. is_unbuilt d ≡ false) ds → (old : IsOldBare (bare_item (item.Style s))) → is_old_rule (Style s) ≡ true
+  read-old s ds is built old = at ds is built (sym (bare-run s ds is) ∙ old.is)
+    where
+      at : (es : List Declaration) → s.items ≡ run_of es → AllByRecursion (λ d. is_unbuilt d ≡ false) es
+          → item.Style (record { selectors = map erased s.selectors; items = run_of (map bared es); at = 0 }) ≡ item.Style (record { selectors = map erased old.list; items = item.Plain (old.first ∷ old.more) ∷ []; at = 0 })
+          → is_old_rule (Style s) ≡ true
+      at [] none built same = absurd (cc (ap (λ (t : style.Style). t.items) (same-rule _ _ same)))
+      at (d ∷ es) some built same =
+          let lists : map erased s.selectors ≡ map erased old.list = ap (λ (t : style.Style). t.selectors) (same-rule _ _ same) in
+          both (list_all is_old_selector s.selectors) _ (laws.alike s.selectors old.list lists ∙ old.old)
+          (ap (λ (xs : List Item). list_all (λ x. is_run (item.out-Item x)) xs && list_any (λ x. declares (item.out-Item x)) xs) some
+          ∙ both (is_run (item.out-Item (item.Plain (d ∷ es))) && true) (declares (item.out-Item (item.Plain (d ∷ es))) || false)
+          (ap (λ v. is_run v && true) (outs-Plain (d ∷ es)) ∙ both (list_all is_old_declaration (d ∷ es)) true (declarations-old (d ∷ es) built) refl)
+          (ap (λ v. declares v || false) (outs-Plain (d ∷ es))))
+
+  item-target : (x : Item) → IsPlainRule x → IsOldBare (bare_item x) → is_old_rule (item.out-Item x) ≡ true
+  item-target x plain old =
       ap (λ y. is_old_rule (item.out-Item y)) plain.is ∙ ap is_old_rule (outs-Style plain.rule)
-      ∙ said-old plain.rule plain.declarations run plain.run plain.built old said
+      ∙ read-old plain.rule plain.declarations plain.run plain.built (subst (λ (y : Item). IsOldBare (bare_item y)) plain.is old)
 
-  items-target : (xs : List Item) (runs : List Run) → AllByRecursion IsPlainRule xs → map bare_rule xs ≡ map rule_of_run runs → AllByRecursion IsOldRun runs → list_all (λ x. is_old_rule (item.out-Item x)) xs ≡ true
-  items-target [] runs plain says old = refl
-  items-target (x ∷ xs) [] plain says old = absurd (cc says)
-  items-target (x ∷ xs) (run ∷ runs) plain says old =
-      let here : bare_rule x ≡ rule_of_run run = cc says in
-      let rest : map bare_rule xs ≡ map rule_of_run runs = cc says in
-      both (is_old_rule (item.out-Item x)) (list_all (λ x. is_old_rule (item.out-Item x)) xs)
-      (item-target x run plain.0 here old.0)
-      (items-target xs runs plain.1 rest old.1)
+  items-target : (xs : List Item) → AllByRecursion IsPlainRule xs → AllByRecursion IsOldBare (bare_items xs) → list_all (λ x. is_old_rule (item.out-Item x)) xs ≡ true
+  items-target [] plain old = refl
+  items-target (x ∷ xs) plain old =
+      both (is_old_rule (item.out-Item x)) (list_all (λ x. is_old_rule (item.out-Item x)) xs) (item-target x plain.0 old.0) (items-target xs plain.1 old.1)
 
   pub target-text : (source : List ℕ) (sheet : Sheet) → HasSheet source sheet → sheet_findings 0 sheet ≡ [] → IsTargetText (sheet_text sheet)
   target-text source sheet has none =
-      let whole = laws.whole 0 sheet none in
+      let again = laws.again source sheet has (laws.whole 0 sheet none) in
       record {
-        readable = (laws.again source sheet has whole).readable;
+        readable = again.readable;
         target = λ new is_new.
-            items-target new.items (runs_of sheet) (laws.plain is_new.0 new is_new.2) (laws.rules source sheet new has whole is_new)
-            (runs-old sheet.items (laws.plain has.0 sheet has.2) none);
+            items-target new.items (laws.plain is_new.0 new is_new.2)
+            (subst (AllByRecursion IsOldBare) (sym (again.same sheet new has is_new)) (items-old sheet.items (laws.plain has.0 sheet has.2) none));
       }

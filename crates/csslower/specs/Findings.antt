@@ -1,6 +1,6 @@
 -- What stands against a file's text. What comes first of these is named: where reading stops, a bracket that is not
 -- paired, what the sheet is refused for, what in it cannot be expressed.
-use Rattle.std.specs.Prelude.{ℕ, ◌≡◌, ◌⊎◌, List, [], length, map, IsTrue, Some}
+use Rattle.std.specs.Prelude.{ℕ, ◌≡◌, ◌⊎◌, List, [], length, Some}
 use Rattle.std.specs.Option.{option_map}
 use Rattle.css_tokens.specs.declared.component.Component.{Component}
 use Rattle.css_tokens.specs.declared.pairing.ComponentFault.TheVariants as fault

@@ -8,7 +8,6 @@ ghost use Rattle.css_outside.specs.Counts.{Rose};
 ghost use Rattle.csslower.specs.Answers.{UsageFits, First, number_of};
 ghost use Rattle.csslower.specs.Words.{sources_of};
 
-use crate::gate::NoGate;
 use crate::judge::lack;
 use crate::run::run;
 use crate::status::Status;
@@ -19,6 +18,7 @@ use std::env::Args;
 use std::io;
 use std::io::ErrorKind;
 use std::process::ExitCode;
+use work_pool::NoGate;
 
 /// Runs with the words that follow a program's name, which is the first of its arguments. Arguments that are no text are no
 /// command.

@@ -4,7 +4,6 @@
 #![tactic(auto)]
 
 mod args;
-mod gate;
 mod judge;
 mod laws;
 mod load;

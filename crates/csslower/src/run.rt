@@ -8,7 +8,6 @@ ghost use Rattle.csslower.specs.Saying.{Said};
 ghost use Rattle.csslower.specs.Words.{entry_path, sources_of, stylesheet_name};
 ghost use Rattle.csslower.specs.Writing.{standard};
 
-use crate::gate::Gate;
 use crate::judge::{finding_at, judge, lack};
 use crate::laws::first_answer;
 use crate::load::{Load, read_whole};
@@ -19,6 +18,7 @@ use crate::words::entry;
 use cascade_spec::{Code, LimitKind};
 use css_outside::{Files, Outbox};
 use std::alloc::Global;
+use work_pool::Gate;
 
 /// Reads the stylesheet that the words name, and writes it for older browsers to standard output. An answer other than
 /// `Done` puts its line to standard error.

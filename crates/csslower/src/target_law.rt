@@ -14,5 +14,6 @@ pub fn printed_sheets_are_targets()
     cascade_spec::laws::sheets_keep_winners();
     findings::clean_sheets_are_whole();
     findings::clean_selectors_are_old();
+    target_check::built_declarations_are_old();
     target_check::places_are_not_looked_at();
 }

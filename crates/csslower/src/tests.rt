@@ -3,7 +3,6 @@ mod examples;
 mod puts;
 mod stingy;
 
-use crate::gate::NoGate;
 use crate::run::run;
 use crate::status::{Status, WordKind};
 use cascade_spec::{Code, Finding, LimitKind, Place};
@@ -11,6 +10,7 @@ use css_outside::{MemoryFiles, MemoryOutbox};
 use css_tokens::{List, Text};
 use std::alloc::Global;
 use std::test::Fail;
+use work_pool::NoGate;
 
 const USAGE: &str =
     "csslower: usage: csslower ENTRY [--outfile=PATH] [--names=PATH] [--writing-mode=W] [--direction=D] [--workers=N]\n";

@@ -1,5 +1,5 @@
 -- What parts of a run put to an output, and what they leave.
-use Rattle.std.specs.Prelude.{◌≡◌, ◌≢◌, ℕ, ◌≤◌, List, [], ◌∷◌, ◌++◌, Bool, true, false, Option, IsSome, length}
+use Rattle.std.specs.Prelude.{◌≡◌, ◌≢◌, ℕ, ◌≤◌, List, ◌++◌, Option, IsSome, length}
 use Rattle.css_outside.specs.Names.{Names, Told, bytes_under}
 use Rattle.csslower.specs.Writing.{standard, WroteAll, WroteFront, SameOutputs}
 use Rattle.csslower.specs.declared.status.Status.{Status}

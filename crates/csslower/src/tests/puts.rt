@@ -1,10 +1,10 @@
 use super::one_file;
-use crate::gate::NoGate;
 use crate::run::run;
 use crate::status::Status;
 use css_outside::MemoryOutbox;
 use css_tokens::List;
 use std::test::Fail;
+use work_pool::NoGate;
 
 #[test]
 fn writes_by_five_bytes_a_put(rt: HostRuntime) -> Result<(), Fail> {

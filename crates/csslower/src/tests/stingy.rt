@@ -1,11 +1,11 @@
 use super::one_file;
-use crate::gate::NoGate;
 use crate::run::run;
 use crate::status::Status;
 use css_outside::{Outbox, PutFailed};
 use css_tokens::{List, OutOfMemory, Text};
 use std::alloc::Global;
 use std::test::Fail;
+use work_pool::NoGate;
 
 // An outbox of which the first puts take one byte each, and the others none.
 #[derive(Drop)]
