@@ -10,8 +10,6 @@ mod folder;
 mod memory;
 mod outbox;
 mod put_faults;
-#[cfg(test)]
-mod put_ready;
 
 pub use files::{Files, FilesFault};
 pub use folder::{FolderFiles, FolderOutbox};

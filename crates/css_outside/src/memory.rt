@@ -6,8 +6,6 @@ mod reserve;
 mod space;
 mod spaces;
 mod sure_files;
-#[cfg(test)]
-mod tests;
 
 pub use memory_files::MemoryFiles;
 pub use memory_outbox::MemoryOutbox;

@@ -3,6 +3,8 @@
 #![tactic(auto)]
 
 #[cfg(test)]
+mod lowering;
+#[cfg(test)]
 mod media;
 #[cfg(test)]
 mod selectors;

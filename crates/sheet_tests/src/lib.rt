@@ -5,8 +5,12 @@
 #[cfg(test)]
 mod builder;
 #[cfg(test)]
+mod passes;
+#[cfg(test)]
 mod print;
 #[cfg(test)]
 mod reader;
 #[cfg(test)]
 mod sheets;
+#[cfg(test)]
+mod targets;

@@ -197,26 +197,6 @@ fn reads_a_large_rule(rt: HostRuntime) -> Result<(), Fail> {
 }
 
 #[test]
-fn knows_target_sheets(rt: HostRuntime) -> Result<(), Fail> {
-    let rows = [
-        ("", true),
-        ("a:hover>b::before,[c=d]{e:f}", true),
-        ("a:not([b=c]){d:e}p{--x:}", true),
-        ("a{}", false),
-        ("a:where(b){c:d}", false),
-        ("a:not(b,c){d:e}", false),
-        ("a:not([b=c i]){d:e}", false),
-        ("a:foo(b){c:d}", false),
-        ("a{b:c}d:has(e){f:g}", false),
-    ];
-    for (text, answer) in rows {
-        let sheet = sheet_of(rt.alloc(), text)?;
-        assert_eq!(rt; is_target(&sheet), answer);
-    }
-    Ok(())
-}
-
-#[test]
 fn looks_through_a_large_sheet(rt: HostRuntime) -> Result<(), Fail> {
     let text = repeated(rt.alloc(), "a:not(.b):hover>c,d{e:f}", "", 2_000)?;
     let sheet = sheet_of(rt.alloc(), &text)?;

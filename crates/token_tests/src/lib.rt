@@ -7,10 +7,16 @@ mod components;
 #[cfg(test)]
 mod names;
 #[cfg(test)]
+mod paths;
+#[cfg(test)]
 mod places;
 #[cfg(test)]
 mod pseudos;
 #[cfg(test)]
+mod tables;
+#[cfg(test)]
 mod tokens;
 #[cfg(test)]
 mod values;
+#[cfg(test)]
+mod work;

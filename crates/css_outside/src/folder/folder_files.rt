@@ -1,4 +1,5 @@
-ghost use Rattle.std.specs.Prelude.{◌≡◌, ◌≤◌, None, IfOk, length};
+ghost use Rattle.std.specs.IoError.{error_kind, raw_os_error};
+ghost use Rattle.std.specs.Prelude.{◌≡◌, ◌≤◌, None, Err, IfOk, length};
 ghost use Rattle.css_outside.specs.Counts.{Rose};
 ghost use Rattle.css_outside.specs.Reading.{IfFailed, UnlessFailed};
 
@@ -25,8 +26,9 @@ impl<R: rt::Files> FolderFiles<R> {
     }
 
     // What a read answers after an error. Only a refused growth has the kind `OutOfMemory` and no code of the system.
-    pub(super) fn answer_to(&mut self, error: io::Error) -> Result<Option<List<u8>>, FilesFault>
+    fn answer_to(&mut self, error: io::Error) -> Result<Option<List<u8>>, FilesFault>
         ensures none { IfOk result (λ found. found ≡ None) }
+        ensures memory { error_kind error ≡ ErrorKind.OutOfMemory → raw_os_error error ≡ None → result ≡ Err FilesFault.Memory }
         ensures count { self.old.faults ≤ self.new.faults }
         ensures cause { IfFailed result (Rose self.old.faults self.new.faults) }
         ensures no_cause { UnlessFailed result (self.new.faults ≡ self.old.faults) }

@@ -1,5 +1,5 @@
 use Rattle.std.proofs.Common.{length}
-use Rattle.css_outside.proofs.memory.tests.large.+is_fresh.Given as goal
+use Rattle.outside_tests.proofs.builders.+is_fresh.Given as goal
 
 abbrev pub decreases-is_fresh : goal.decreases-is_fresh
 decreases-is_fresh l = length l.files.now

@@ -1,8 +1,7 @@
-use crate::put_ready::put_ready;
-use crate::{Files, FilesFault, FolderFiles, FolderOutbox, PutFailed};
-use std::io::ErrorKind;
+use crate::builders::{numbered, put_ready, put_rows};
+use css_outside::{Files, FilesFault, FolderFiles, FolderOutbox, PutFailed};
+use std::fs;
 use std::test::Fail;
-use std::{fs, io};
 
 #[test]
 fn reads_the_first_bytes_of_real_files(rt: HostRuntime) -> Result<(), Fail> {
@@ -20,8 +19,6 @@ fn reads_the_first_bytes_of_real_files(rt: HostRuntime) -> Result<(), Fail> {
     }
     assert!(rt; matches!(files.read(rt.alloc(), "no.css", 9), Ok(None)));
     assert!(rt; matches!(files.read(rt.alloc(), ".", 9), Err(FilesFault::Failed)));
-    let refused = io::Error::from(ErrorKind::OutOfMemory);
-    assert!(rt; matches!(files.answer_to(refused), Err(FilesFault::Memory)));
     fs::remove_file(&rt, "a.css")?;
     Ok(())
 }
@@ -30,16 +27,16 @@ fn reads_the_first_bytes_of_real_files(rt: HostRuntime) -> Result<(), Fail> {
 fn writes_real_files_and_streams(rt: HostRuntime) -> Result<(), Fail> {
     fs::write(&rt, "old.css", "a long old text")?;
     let mut outbox = FolderOutbox::new(rt, rt.alloc());
-    assert_eq!(rt; put_ready(&mut outbox, "new.css", b"ab"), Ok(2));
-    assert_eq!(rt; put_ready(&mut outbox, "new.css", b"cd"), Ok(2));
-    assert_eq!(rt; put_ready(&mut outbox, "old.css", b"x"), Ok(1));
-    assert_eq!(rt; put_ready(&mut outbox, "empty.css", b""), Ok(0));
-    assert_eq!(rt; put_ready(&mut outbox, "-", b"out\n"), Ok(4));
-    assert_eq!(rt; put_ready(&mut outbox, "!", b"message\n"), Ok(8));
-    assert_eq!(rt;
-        put_ready(&mut outbox, "none/a.css", b"x"),
-        Err(PutFailed::Failed)
-    );
+    let rows = [
+        ("new.css", "ab", Ok(2)),
+        ("new.css", "cd", Ok(2)),
+        ("old.css", "x", Ok(1)),
+        ("empty.css", "", Ok(0)),
+        ("-", "out\n", Ok(4)),
+        ("!", "message\n", Ok(8)),
+        ("none/a.css", "x", Err(PutFailed::Failed)),
+    ];
+    put_rows(&rt, &mut outbox, &rows);
     for (name, want) in [("new.css", "abcd"), ("old.css", "x"), ("empty.css", "")] {
         assert_eq!(rt; fs::read_to_string(&rt, name)?.as_str(), want);
         fs::remove_file(&rt, name)?;
@@ -73,11 +70,11 @@ fn writes_and_reads_a_mebibyte(rt: HostRuntime) -> Result<(), Fail> {
 fn writes_a_hundred_files(rt: HostRuntime) -> Result<(), Fail> {
     let mut outbox = FolderOutbox::new(rt, rt.alloc());
     for at in 0..1_000 {
-        let name = format!(in rt.alloc(); "{}.css", at % 100)?;
+        let name = numbered(rt.alloc(), at % 100)?;
         assert_eq!(rt; put_ready(&mut outbox, name.as_str(), b"p{a:b}\n"), Ok(7));
     }
-    for i in 0..100 {
-        let name = format!(in rt.alloc(); "{i}.css")?;
+    for number in 0..100 {
+        let name = numbered(rt.alloc(), number)?;
         let text = fs::read_to_string(&rt, name.as_str())?;
         assert_eq!(rt; text.len(), 70);
         fs::remove_file(&rt, name.as_str())?;
