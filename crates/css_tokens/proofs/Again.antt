@@ -47,7 +47,7 @@ alike_classes a b h = (
   h.stop_right,
 )
 
-kept_alike : (s : State) (a b : List ℕ) (k : Kind) → is_solid k ≡ true → Alike a b → state_takes_first s (classes_of b) ≡ false → longest_in s (classes_of a) ≡ Some (k, 0) → longest_in s (classes_of b) ≡ Some (k, 0)
+pub kept_alike : (s : State) (a b : List ℕ) (k : Kind) → is_solid k ≡ true → Alike a b → state_takes_first s (classes_of b) ≡ false → longest_in s (classes_of a) ≡ Some (k, 0) → longest_in s (classes_of b) ≡ Some (k, 0)
 kept_alike s a b k e h g f =
     let c = alike_classes a b h in
     ap (longest_in s) c.4 ∙ kept s c.0 c.1 c.2 k e c.5 (ap (state_takes_first s) (sym c.4) ∙ g) c.6 (ap (longest_in s) (sym c.3) ∙ f)
@@ -134,7 +134,7 @@ url_end s after k e h =
 quote_kept : (a b : List ℕ) → KeepsQuote a b → not (quote_follows (classes_of a)) ≡ false → not (quote_follows (classes_of b)) ≡ false
 quote_kept a b q h = ap not (q (not-false (quote_follows (classes_of a)) h))
 
-ruled_kept : (u a b : List ℕ) → (is_url u ≡ true → KeepsQuote a b) → is_ruled u a ≡ false → is_ruled u b ≡ false
+pub ruled_kept : (u a b : List ℕ) → (is_url u ≡ true → KeepsQuote a b) → is_ruled u a ≡ false → is_ruled u b ≡ false
 ruled_kept u a b q h =
     elim (cases_Bool (is_url u)) [
       | inl e ↦ let g : not (quote_follows (classes_of a)) ≡ false = rw e at h in rw e (quote_kept a b (q e) g)
@@ -151,7 +151,7 @@ table_kept w a b s h q n t =
       ruled = ruled_kept w.text a b q t.ruled;
     }
 
-url_kept : (w : Word) (a b : List ℕ) → AsUrl w a → AsUrl w b
+pub url_kept : (w : Word) (a b : List ℕ) → AsUrl w a → AsUrl w b
 url_kept w a b u =
     let p = and_parts (is_url u.name) (not (quote_follows (classes_of (u.inside ++ a)))) u.ruled in
     let i = classes_of u.inside in

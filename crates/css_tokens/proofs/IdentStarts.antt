@@ -60,7 +60,7 @@ start-class b = elim (cases_Bool (ltb b 128)) [
   | inr e ↦ let h = ltb-false b 128 e in start-high b h ∙ sym (ap (has starters) (high_class b (from_high b h)))
 ]
 
-dash-class : (b : ℕ) → is_dash b ≡ dash_byte b
+pub dash-class : (b : ℕ) → is_dash b ≡ dash_byte b
 dash-class b = elim (cases_Bool (ltb b 128)) [
   | inl e ↦ agree_below_at is_dash dash_byte 128 b refl (ltb-true b 128 e)
   | inr e ↦ let h = ltb-false b 128 e in dash-high b h ∙ sym (ap (is_class class.Minus) (high_class b (from_high b h)))

@@ -85,7 +85,7 @@ kind_takes s x = is_calm s && state_takes s x
 take_kind : (s : State) (x : Class) → kind_takes s x ≡ true → is_some (ended s []) ≡ true
 take_kind s x h = implied (kind_takes s x) (is_some (ended s [])) h (each_step (λ r c. not (kind_takes r c) || is_some (ended r [])) refl s x)
 
-calm_ended : (s : State) (after : List Class) → is_calm s ≡ true → ended s after ≡ ended s []
+pub calm_ended : (s : State) (after : List Class) → is_calm s ≡ true → ended s after ≡ ended s []
 calm_ended state.Slash after h = cc
 calm_ended s after h = refl
 
@@ -170,7 +170,7 @@ none_found None None h = (refl, refl)
 none_found None (Some k) h = cc
 none_found (Some f) here h = cc
 
-no_kind : (s : State) (a : List Class) → longest_in s a ≡ None → (ended s a ≡ None)
+pub no_kind : (s : State) (a : List Class) → longest_in s a ≡ None → (ended s a ≡ None)
 no_kind s [] h = (none_found None (ended s []) (sym (longest_in-nil s) ∙ h)).1
 no_kind s (x ∷ a) h = (none_found (longest_in (next s x) a) (ended s (x ∷ a)) (sym (longest_in-step s x a) ∙ h)).1
 
@@ -210,7 +210,7 @@ or_nothing false h = refl
 abbrev slash_kind : Bool → Option Kind
 slash_kind b = if b then Some kind.Delim else None
 
-slash_here : (t : List Class) → starts t class.Star ≡ false → longest_in state.Slash t ≡ Some (kind.Delim, 0)
+pub slash_here : (t : List Class) → starts t class.Star ≡ false → longest_in state.Slash t ≡ Some (kind.Delim, 0)
 slash_here [] h = longest_in-nil state.Slash
 slash_here (x ∷ t) h =
     longest_in-step state.Slash x t

@@ -57,5 +57,8 @@ pub mod ValueReads
 pub mod UrlNames
 pub mod Within
 pub mod NumberStays
+pub mod SlashStays
+pub mod ReadsBefore
+pub mod RelationStays
 pub mod HashFirst
 pub mod WordTexts

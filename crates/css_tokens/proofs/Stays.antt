@@ -86,7 +86,7 @@ Stays s set = dies_at s set × ((after : List Class) → ended s after ≡ ended
 abbrev goes_on_with : Kind → List Class → State → Class → Bool
 goes_on_with k set s c = not (names k (ended s [])) || (has set c || (state_takes s c || is_dead (next s c)))
 
-aside_from : (s : State) (k : Kind) → is_kind k kind.Delim ≡ false → ended s [] ≡ Some k → (after : List Class) → ended s after ≡ ended s []
+pub aside_from : (s : State) (k : Kind) → is_kind k kind.Delim ≡ false → ended s [] ≡ Some k → (after : List Class) → ended s after ≡ ended s []
 aside_from state.Slash k n h after = absurd (false≢true (sym n ∙ ap (λ j. is_kind j kind.Delim) (sym (same_inside kind.Delim k h))))
 aside_from s k n h after = refl
 
@@ -97,7 +97,7 @@ state_stays s k set n h e = (
 )
 
 -- a word of this kind before a text that begins with none of the set, and with nothing that the word takes
-stays_in : (u : List ℕ) (k : Kind) (set : List Class) (rest : List ℕ) → is_kind k kind.Delim ≡ false → is_kind k kind.Function ≡ false → is_kind k kind.Url ≡ false → is_solid k ≡ true → all_pass (λ r. list_all (goes_on_with k set r) classes) ≡ true → spells k u ≡ true → begins_none set rest ≡ true → takes (word_from k u) rest ≡ false → StaysFirst (word_from k u) rest
+pub stays_in : (u : List ℕ) (k : Kind) (set : List Class) (rest : List ℕ) → is_kind k kind.Delim ≡ false → is_kind k kind.Function ≡ false → is_kind k kind.Url ≡ false → is_solid k ≡ true → all_pass (λ r. list_all (goes_on_with k set r) classes) ≡ true → spells k u ≡ true → begins_none set rest ≡ true → takes (word_from k u) rest ≡ false → StaysFirst (word_from k u) rest
 stays_in u k set rest d f l s h e n g =
     let i = spelled_state u k l e in
     let w = state_stays (run state.Start (classes_of u)) k set d h i in

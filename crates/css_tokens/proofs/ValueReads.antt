@@ -234,7 +234,7 @@ space_only w (c ∷ b) g n h =
     ]
 
 -- or that is dark
-dark_takes : (w : Word) (b : List ℕ) → begins_none white b ≡ true → takes w b ≡ false
+pub dark_takes : (w : Word) (b : List ℕ) → begins_none white b ≡ true → takes w b ≡ false
 dark_takes w [] h = refl
 dark_takes w (c ∷ b) h =
     elim (cases_Bool (has white (class_of c))) [
@@ -329,7 +329,7 @@ no_function w e = elim (cases_Bool (is_kind w.kind kind.Function)) [
   | inl f ↦ absurd (both_ways (takes_space w) (open_takes_none w kind.Function (is_kind-eq w.kind kind.Function f) refl) e)
 ]
 
-solid_kind : (k : Kind) → is_gap k ≡ false → is_solid k ≡ true
+pub solid_kind : (k : Kind) → is_gap k ≡ false → is_solid k ≡ true
 solid_kind kind.White e = cc
 solid_kind kind.Comment e = cc
 solid_kind _ e = refl
@@ -398,15 +398,15 @@ same_begins [] a b l h = absurd (omega arith)
 same_begins (x ∷ t) a b l h = h
 
 -- white space goes on with white space
-abbrev is_state_white : State → Bool
+abbrev pub is_state_white : State → Bool
 is_state_white state.White = true
 is_state_white s = false
 
-state_white-eq : (s : State) → is_state_white s ≡ true → s ≡ state.White
+pub state_white-eq : (s : State) → is_state_white s ≡ true → s ≡ state.White
 state_white-eq state.White h = refl
 state_white-eq s h = cc
 
-white_none : (c : List Class) → longest_in state.White c ≡ Some (kind.White, 0) → not (begins white c) ≡ true
+pub white_none : (c : List Class) → longest_in state.White c ≡ Some (kind.White, 0) → not (begins white c) ≡ true
 white_none [] h = refl
 white_none (x ∷ c) h = elim (cases_Bool (has white x)) [
   | inr e ↦ none_white x c e

@@ -108,3 +108,11 @@ digit = class.Digit ∷ []
 -- the digits and `.`: what may make a number of a `+` before it
 abbrev pub digit_or_dot : List Class
 digit_or_dot = class.Digit ∷ class.Dot ∷ []
+
+-- `*`: what makes a comment of a `/` before it
+abbrev pub star : List Class
+star = class.Star ∷ []
+
+-- `!`: what may make `<!--` of a `<` before it
+abbrev pub bang : List Class
+bang = class.Bang ∷ []

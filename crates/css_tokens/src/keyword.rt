@@ -69,7 +69,7 @@ fn is_word(text: &[u8], word: &[u8]) -> bool
 }
 
 /// Whether an Ident is this keyword, which is given in lower case, in any case of ASCII letters and whatever its escapes (CSS
-/// Values 4, section 2.1). Takes no memory.
+/// Values 4, section 4.1). Takes no memory.
 pub fn is_keyword(token: &Token, keyword: &str) -> bool
     requires ident { token.now.kind ≡ Kind.Ident }
     requires ascii { IsTrue (list_all is_ascii keyword.now) }

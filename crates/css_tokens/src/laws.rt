@@ -1,13 +1,15 @@
-ghost use Rattle.std.specs.Prelude.{ℕ, List, ◌&&◌, not, ◌∷◌, [], ◌++◌, ◌≡◌, ◌≢◌, ◌≤◌, ◌⊎◌, IsTrue, true, false, codes, length, map};
-ghost use Rattle.std.specs.List.{AllByRecursion, list_all, list_any};
+ghost use Rattle.std.specs.Prelude.{ℕ, List, ◌&&◌, not, ◌∷◌, [], ◌++◌, ◌≡◌, ◌≢◌, ◌≤◌, ◌⊎◌, IsTrue, true, false, codes, length, map, nat_eq};
+ghost use Rattle.std.specs.List.{AllByRecursion, ends_with, list_all, list_any};
 ghost use Rattle.std.specs.Str.{IsUtf8, is_utf8, str_to_ascii_lowercase};
 ghost use Rattle.css_tokens.specs.declared.component.Component.{Component};
 ghost use Rattle.css_tokens.specs.declared.class.Class.TheVariants as class;
+ghost use Rattle.css_tokens.specs.declared.kind.Kind.{Kind};
 ghost use Rattle.css_tokens.specs.declared.kind.Kind.TheVariants as kind;
 ghost use Rattle.css_tokens.specs.declared.pairing.ComponentFault.{ComponentFault};
 ghost use Rattle.css_tokens.specs.declared.pairing.ComponentFault.TheVariants as fault;
-ghost use Rattle.css_tokens.specs.Again.{StaysFirst, Alike, KeepsQuote, is_solid, is_stop, is_end_kind, word_from, marks, begins_none, after_ident, after_name, more_name, takes, digit, digit_or_dot};
+ghost use Rattle.css_tokens.specs.Again.{StaysFirst, Alike, KeepsQuote, is_solid, is_stop, is_end_kind, word_from, marks, begins_none, after_ident, after_name, more_name, takes, digit, digit_or_dot, star, bang};
 ghost use Rattle.css_tokens.specs.Characters.{white};
+ghost use Rattle.css_tokens.specs.Kinds.{is_kind};
 ghost use Rattle.css_tokens.specs.NameText.{name_text};
 ghost use Rattle.css_tokens.specs.Components.{HasComponents, IsFirstFault};
 ghost use Rattle.css_tokens.specs.Names.{is_content, is_name, name_of_word, starts_ident};
@@ -145,4 +147,39 @@ pub fn names_stay()
 pub fn numbers_stay()
     ensures number { (sign ds rest : List ℕ) → is_sign sign ≡ true → is_digits ds ≡ true → begins_none after_number rest ≡ true → StaysFirst (word_from kind.Number (sign ++ ds)) rest }
     ensures dimension { (sign ds w rest : List ℕ) → is_sign sign ≡ true → is_digits ds ≡ true → list_all is_plain w ≡ true → begins_none more_name rest ≡ true → StaysFirst (word_from kind.Dimension (sign ++ (ds ++ 110 ∷ w))) rest }
+{}
+
+/// What parts two numbers, as in the ratio `16 / 9`: a `/` stays a Delim before a text that does not begin with `*`, and no
+/// number begins so. A word that ends a text is its first token (CSS Syntax 3, sections 4.3.1 and 4.3.2).
+pub fn numbers_part()
+    ensures slash { (rest : List ℕ) → begins_none star rest ≡ true → StaysFirst (word_from kind.Delim (codes "/")) rest }
+    ensures number { (u rest : List ℕ) → spells kind.Number u ≡ true → begins_none star (u ++ rest) ≡ true }
+    ensures alone { (k : Kind) (u : List ℕ) → is_kind k kind.Url ≡ false → is_kind k kind.Function ≡ false → spells k u ≡ true → StaysFirst (word_from k u) [] }
+{}
+
+/// A `<` stays a Delim before a text that does not begin with `!`, and so before a `=` (CSS Syntax 3, section 4.3.1).
+pub fn less_than_stays()
+    ensures less { (rest : List ℕ) → begins_none bang rest ≡ true → StaysFirst (word_from kind.Delim (codes "<")) rest }
+    ensures equals { (rest : List ℕ) → StaysFirst (word_from kind.Delim (codes "<")) (codes "=" ++ rest) }
+{}
+
+/// A closing bracket does not depend on what follows it: words that are read up to a `)`, `]` or `}` are read so whatever
+/// text stands behind the bracket (CSS Syntax 3, section 4.3.1).
+pub fn closing_brackets_stand()
+    ensures parenthesis { (xs : List Word) (s r : List ℕ) → ReadsTo (spelled xs ++ (codes ")" ++ s)) xs (codes ")" ++ s) → ReadsTo (spelled xs ++ (codes ")" ++ r)) xs (codes ")" ++ r) }
+    ensures square { (xs : List Word) (s r : List ℕ) → ReadsTo (spelled xs ++ (codes "]" ++ s)) xs (codes "]" ++ s) → ReadsTo (spelled xs ++ (codes "]" ++ r)) xs (codes "]" ++ r) }
+    ensures brace { (xs : List Word) (s r : List ℕ) → ReadsTo (spelled xs ++ (codes "}" ++ s)) xs (codes "}" ++ s) → ReadsTo (spelled xs ++ (codes "}" ++ r)) xs (codes "}" ++ r) }
+{}
+
+/// What may stand between a value and a relation, as in `2em > width`: a number, a dimension and an identifier other than `--`
+/// stay the first token before a `>`; a number, and any of these that ends in `--`, before a space. Only a Delim
+/// may begin with `!`, with which a `<` before it might begin `<!--` (CSS Syntax 3, section 4.3.1); of a Url this is not said.
+pub fn values_stand_by_relations()
+    ensures number { (u rest : List ℕ) → spells kind.Number u ≡ true → StaysFirst (word_from kind.Number u) (codes ">" ++ rest) }
+    ensures dimension { (u rest : List ℕ) → spells kind.Dimension u ≡ true → StaysFirst (word_from kind.Dimension u) (codes ">" ++ rest) }
+    ensures ident { (u rest : List ℕ) → spells kind.Ident u ≡ true → u ≢ codes "--" → StaysFirst (word_from kind.Ident u) (codes ">" ++ rest) }
+    ensures number_space { (u rest : List ℕ) → spells kind.Number u ≡ true → StaysFirst (word_from kind.Number u) (codes " " ++ rest) }
+    ensures dimension_space { (u rest : List ℕ) → spells kind.Dimension u ≡ true → ends_with nat_eq u (codes "--") ≡ true → StaysFirst (word_from kind.Dimension u) (codes " " ++ rest) }
+    ensures ident_space { (u rest : List ℕ) → spells kind.Ident u ≡ true → ends_with nat_eq u (codes "--") ≡ true → StaysFirst (word_from kind.Ident u) (codes " " ++ rest) }
+    ensures no_bang { (k : Kind) (u rest : List ℕ) → is_kind k kind.Delim ≡ false → is_kind k kind.Url ≡ false → spells k u ≡ true → begins_none bang (u ++ rest) ≡ true }
 {}

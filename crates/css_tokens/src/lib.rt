@@ -30,8 +30,9 @@ pub use component_reader::ComponentReader;
 pub use keyword::is_keyword;
 pub use kind::Kind;
 pub use laws::{
-    components_or_fault, ids_spell, names_spell, names_stay, numbers_stay, one_bracket_fault,
-    one_reading, places_rise_in_a_text, some_pairing, some_reading, strings_spell, values_again,
+    closing_brackets_stand, components_or_fault, ids_spell, less_than_stays, names_spell,
+    names_stay, numbers_part, numbers_stay, one_bracket_fault, one_reading, places_rise_in_a_text,
+    some_pairing, some_reading, strings_spell, values_again, values_stand_by_relations,
     words_again, words_are_clean,
 };
 pub use list::List;
