@@ -1,0 +1,2 @@
+-- What the clauses of private functions alone cite: how the work is done, step by step. A reader need not believe it.
+pub mod LogicalNames
