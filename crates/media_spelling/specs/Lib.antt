@@ -6,5 +6,8 @@ pub mod Spelling
 pub mod ConditionInduction
 pub mod SupportsInduction
 pub mod Preludes
+pub mod Places
+pub mod SupportsAgain
+pub mod SupportsValues
 pub mod Samples
 pub mod Private

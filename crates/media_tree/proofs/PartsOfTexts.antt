@@ -21,12 +21,22 @@ pub record Good (c : Component) : Type 0 where
   pub formed : is_formed c ≡ true
   pub spelled : list_all is_spelled (words_of c) ≡ true
 
+-- the words of a component and of those behind it
+pub words-cons : (c : Component) (cs : List Component) → words_all (c ∷ cs) ≡ words_of c ++ words_all cs
+words-cons c cs = map-append word_of (pieces_of c) (pieces_all cs)
+
+-- the words of a block
+pub words-block : (b : block.Block) → words_of (component.Block b) ≡ word_of b.opening ∷ (words_all b.items ++ word_of (closing b.opening b.close) ∷ [])
+words-block b =
+    ap (λ (ps : List Piece). map word_of ps) (pieces_of-Block b)
+    ∙ ap (λ (ws : List Word). word_of b.opening ∷ ws) (map-append word_of (pieces_all b.items) (closing b.opening b.close ∷ []))
+
 pub all-good : (cs : List Component) → all_formed cs ≡ true → list_all is_spelled (words_all cs) ≡ true → Each Good cs
 all-good [] f s = tt
 all-good (c ∷ cs) f s =
     let p = and_parts (is_formed c) (all_formed cs) f in
     let e : list_all is_spelled (words_all (c ∷ cs)) ≡ (list_all is_spelled (words_of c) && list_all is_spelled (words_all cs)) =
-    ap (list_all is_spelled) (map-append word_of (pieces_of c) (pieces_all cs)) ∙ list_all-append is_spelled (words_of c) (words_all cs) in
+    ap (list_all is_spelled) (words-cons c cs) ∙ list_all-append is_spelled (words_of c) (words_all cs) in
     let q = and_parts (list_all is_spelled (words_of c)) (list_all is_spelled (words_all cs)) (sym e ∙ s) in
     (record { formed = p.0; spelled = q.0 }, all-good cs p.1 q.1)
 
@@ -43,8 +53,7 @@ pub inside-good : (b : block.Block) → Good (component.Block b) → Each Good b
 inside-good b g =
     let f = and_parts (opens b.opening.kind) (all_formed b.items) (sym (is_formed-Block b) ∙ g.formed) in
     let last : List Word = word_of (closing b.opening b.close) ∷ [] in
-    let e : words_of (component.Block b) ≡ word_of b.opening ∷ (words_all b.items ++ last) =
-    ap (λ (ps : List Piece). map word_of ps) (pieces_of-Block b) ∙ ap (λ (ws : List Word). word_of b.opening ∷ ws) (map-append word_of (pieces_all b.items) (closing b.opening b.close ∷ [])) in
+    let e = words-block b in
     let s = and_parts (is_spelled (word_of b.opening)) (list_all is_spelled (words_all b.items ++ last)) (sym (ap (list_all is_spelled) e) ∙ g.spelled) in
     let t = and_parts (list_all is_spelled (words_all b.items)) (list_all is_spelled last) (sym (list_all-append is_spelled (words_all b.items) last) ∙ s.1) in
     all-good b.items f.1 t.0

@@ -31,7 +31,8 @@ use Rattle.media_tree.specs.Conditions.{and_row, condition_of, name_sign, or_row
 use Rattle.media_tree.specs.Marks.{is_gap, is_gap_mark, layer_mark, lowered, mark_of, token_mark, trimmed, trimmed_end, trimmed_start}
 use Rattle.media_tree.specs.ReadableQueries.{has_two}
 use Rattle.media_spelling.specs.Spelling.{Spelled, compound, declaration_spelling, enclosed, further, joined, negated, spelled_supports, supports_spelling, supports_steps, value_spelling}
-use Rattle.media_tree.specs.SupportsAgain.{again_steps, is_readable_declaration, is_readable_supports, readable, supports_again}
+use Rattle.media_spelling.specs.SupportsAgain.{again_steps, supports_again}
+use Rattle.media_tree.specs.SupportsAgain.{is_readable_declaration, is_readable_supports, readable}
 use Rattle.media_tree.specs.SupportsReading.{declaration_of, declared, declared_by, declared_from, is_colon_mark, is_custom, layer_name, makes, may_be_value, name_of, property_name, sign_of, supports_reading}
 use Rattle.media_tree.proofs.ConditionsAgain.{solid-append}
 use Rattle.media_tree.proofs.SignEquations.{supports-Single, supports-Block}

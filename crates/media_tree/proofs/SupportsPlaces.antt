@@ -19,7 +19,7 @@ use Rattle.media_tree.specs.declared.sign.Sign.TheVariants.{Gap, Not, And, Or, W
 use Rattle.media_tree.specs.ComponentInduction.{Each, by_components}
 use Rattle.media_tree.specs.Conditions.{and_row, condition_of, or_row, solid, within}
 use Rattle.media_tree.specs.Marks.{mark_of, trimmed, trimmed_start}
-use Rattle.media_tree.specs.Places.{bare, bare_steps, bare_supports, placeless}
+use Rattle.media_spelling.specs.Places.{bare, bare_steps, bare_supports, placeless}
 use Rattle.media_tree.specs.SupportsReading.{declaration_from, declaration_of, declared, declared_by, declared_from, inside_of, is_barred, is_barred_mark, is_braces, is_braces_mark, is_colon_mark, is_custom, layer_name, makes, may_be_value, name_of, opened_sign, property_name, sign_of, supports_reading}
 use Rattle.media_tree.proofs.QueryPlaces.{layer-bare, mark-bare, start-bare, trimmed-bare}
 use Rattle.media_tree.proofs.SignEquations.{supports-Single, supports-Block}

@@ -29,7 +29,8 @@ use Rattle.media_tree.specs.declared.sign.Sign.TheVariants.{Not, Only, And, Or, 
 use Rattle.media_tree.specs.ComponentInduction.{Each, by_components}
 use Rattle.media_tree.specs.Conditions.{condition_of, kind_sign, solid, within}
 use Rattle.media_tree.specs.Marks.{is_gap, is_gap_mark, layer_mark, lowered, mark_of, token_mark, trimmed, trimmed_end, trimmed_start}
-use Rattle.media_tree.specs.SupportsAgain.{functionless, has_no_function, is_readable_declaration, is_readable_supports, readable}
+use Rattle.media_spelling.specs.SupportsAgain.{functionless, has_no_function}
+use Rattle.media_tree.specs.SupportsAgain.{is_readable_declaration, is_readable_supports, readable}
 use Rattle.media_tree.specs.SupportsReading.{declaration_from, declaration_of, declared, declared_by, declared_from, inside_of, is_barred, is_barred_mark, is_braces, is_braces_mark, is_colon_mark, is_custom, is_own_value, layer_name, makes, may_be_value, name_of, opened_sign, property_name, sign_of, supports_reading, token_name}
 use Rattle.media_tree.specs.SpelledWords.{is_spelled}
 use Rattle.media_tree.proofs.LowerNames.{lower-name, lower-twice}

@@ -4,31 +4,14 @@ use Rattle.std.proofs.lemmas.List.{map-append}
 use Rattle.css_tokens.specs.declared.component.Component.{Component}
 use Rattle.css_tokens.specs.declared.component.Component as component
 use Rattle.css_tokens.specs.declared.component.Block as block
-use Rattle.css_tokens.specs.declared.component.Component.TheFolds.{fold-Component, fold_out-Component}
-use Rattle.css_tokens.specs.declared.component.Component.TheOpen.{Component-F}
-use Rattle.css_tokens.specs.declared.component.Component.TheVariants.{outs-Single, outs-Block}
 use Rattle.css_tokens.specs.Piece.{Piece, Word, word_of}
 use Rattle.media_tree.specs.ComponentInduction.{Each, by_components}
-pub use Rattle.media_tree.specs.Places.{bare, block_bare, component_bare, placeless}
+pub use Rattle.media_spelling.specs.Places.{bare, bare_block, bare-Single, bare-Block, block_bare, component_bare, placeless}
 use Rattle.css_tokens.specs.Trees.{opens, closing, pieces_of, pieces_all, words_all, is_formed, all_formed, pieces_of-Single, pieces_of-Block, is_formed-Single, is_formed-Block}
 
 pub every : (P : Component → Type 0) → ((c : Component) → P c) → (cs : List Component) → Each P cs
 every P holds [] = tt
 every P holds (c ∷ cs) = (holds c, every P holds cs)
-
--- Places at 0.
-
-abbrev pub bare_block : block.Block → block.Block
-bare_block b = record { opening = placeless b.opening; items = map bare b.items; close = 0 }
-
-abbrev layer_bare : Component-F Component block.Block → Component
-layer_bare v = component_bare (component.map-Component Component block.Block Component block.Block (fold-Component Component block.Block component_bare block_bare) (block.fold-Block Component block.Block component_bare block_bare) v)
-
-pub bare-Single : (p : Piece) → bare (component.Single p) ≡ component.Single (placeless p)
-bare-Single p = fold_out-Component Component block.Block component_bare block_bare (component.Single p) ∙ ap layer_bare (outs-Single p)
-
-pub bare-Block : (b : block.Block) → bare (component.Block b) ≡ component.Block (bare_block b)
-bare-Block b = fold_out-Component Component block.Block component_bare block_bare (component.Block b) ∙ ap layer_bare (outs-Block b) ∙ ap component.Block (block.fold_out-Block Component block.Block component_bare block_bare b)
 
 -- Its tokens are the same but for their places.
 

@@ -10,4 +10,4 @@ pub mod Faults
 pub mod ReadableQueries
 pub mod SupportsAgain
 pub mod SpelledWords
-pub mod Places
+pub mod ReadValues

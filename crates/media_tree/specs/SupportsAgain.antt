@@ -1,29 +1,14 @@
--- Supports conditions as they are read again, and which of them are (Conditional Rules 3, section 6).
-use Rattle.std.specs.Prelude.{ℕ, List, Bool, true, false, ◌&&◌}
+-- Which supports conditions are read again (Conditional Rules 3, section 6).
+use Rattle.std.specs.Prelude.{ℕ, List, Bool, false, ◌&&◌}
 use Rattle.std.specs.List.{list_all}
 use Rattle.css_tokens.specs.declared.component.Component.{Component}
 use Rattle.css_tokens.specs.Names.{is_name}
 use Rattle.css_tokens.specs.Trees.{all_formed, is_text}
 use Rattle.css_tokens.specs.ValueAgain.{value_again}
 use Rattle.media_spelling.specs.declared.supports.Supports.{Supports}
-use Rattle.media_spelling.specs.declared.supports.Supports as supports
 use Rattle.media_tree.specs.ReadableQueries.{has_two}
 use Rattle.media_spelling.specs.SupportsFold.{Steps, folded}
 use Rattle.media_tree.specs.SupportsReading.{is_custom, may_be_value, property_name}
-
--- each with its values as they print, and functions at the place 0
-abbrev pub again_steps : Steps Supports
-again_steps = record {
-  and_of = λ cs. supports.And cs;
-  or_of = λ cs. supports.Or cs;
-  not_of = λ c. supports.Not c;
-  declared = λ name value. supports.Declared name (value_again value);
-  function = λ at. supports.Function 0;
-}
-
--- a supports condition as it is read again
-abbrev pub supports_again : Supports → Supports
-supports_again = folded again_steps
 
 -- a property with a value that it may have
 abbrev pub is_readable_declaration : List ℕ → List Component → Bool
@@ -42,17 +27,3 @@ readable = record {
 -- a supports condition
 abbrev pub is_readable_supports : Supports → Bool
 is_readable_supports = folded readable
-
--- Does no function stand in it?
-abbrev pub functionless : Steps Bool
-functionless = record {
-  and_of = λ bs. list_all (λ b. b) bs;
-  or_of = λ bs. list_all (λ b. b) bs;
-  not_of = λ b. b;
-  declared = λ name value. true;
-  function = λ at. false;
-}
-
--- a supports condition without functions
-abbrev pub has_no_function : Supports → Bool
-has_no_function = folded functionless

@@ -15,7 +15,9 @@ mod supports_reading;
 pub use fault::MediaFault;
 pub use laws::{
     places_of_queries_are_not_read, places_of_supports_are_not_read, queries_are_read_again,
-    supports_are_read_again, supports_that_are_read_are_readable, texts_begin_solid,
+    queries_that_are_read_are_readable, query_texts_are_read, supports_are_read_again,
+    supports_texts_are_read, supports_that_are_read_are_readable, supports_that_are_read_stand,
+    texts_begin_solid, texts_give_spelled_words,
 };
 pub use media_spelling::{
     Bound, Condition, Feature, Prefix, Query, Range, Relation, Supports, Value,

@@ -1,7 +1,7 @@
 use Rattle.std.proofs.Common.{◌∙◌, ap, sym, List}
 use Rattle.std.specs.Option.{option_map}
 use Rattle.css_tokens.specs.declared.component.Component.{Component}
-use Rattle.media_tree.specs.Places.{bare_supports}
+use Rattle.media_spelling.specs.Places.{bare_supports}
 use Rattle.media_tree.specs.SupportsReading.{supports_reading}
 use Rattle.media_tree.proofs.SupportsPlaces.{reading-bare}
 use Rattle.media_tree.proofs.TreePlaces.{same-bare}

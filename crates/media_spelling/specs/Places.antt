@@ -1,10 +1,12 @@
 -- Components and supports conditions with each place at 0.
-use Rattle.std.specs.Prelude.{map}
+use Rattle.std.specs.Prelude.{map, ◌≡◌}
+use Rattle.std.proofs.Common.{◌∙◌, ap}
 use Rattle.css_tokens.specs.declared.component.Component.{Component}
 use Rattle.css_tokens.specs.declared.component.Component as component
 use Rattle.css_tokens.specs.declared.component.Block as block
-use Rattle.css_tokens.specs.declared.component.Component.TheFolds.{fold-Component}
+use Rattle.css_tokens.specs.declared.component.Component.TheFolds.{fold-Component, fold_out-Component}
 use Rattle.css_tokens.specs.declared.component.Component.TheOpen.{Component-F, Single, Block, Block-F}
+use Rattle.css_tokens.specs.declared.component.Component.TheVariants.{outs-Single, outs-Block}
 use Rattle.css_tokens.specs.Piece.{Piece}
 use Rattle.media_spelling.specs.declared.supports.Supports.{Supports}
 use Rattle.media_spelling.specs.declared.supports.Supports as supports
@@ -26,6 +28,18 @@ block_bare b = record { opening = placeless b.opening; items = b.items; close = 
 -- the component with each place at 0
 abbrev pub bare : Component → Component
 bare = fold-Component Component block.Block component_bare block_bare
+
+abbrev pub bare_block : block.Block → block.Block
+bare_block b = record { opening = placeless b.opening; items = map bare b.items; close = 0 }
+
+abbrev layer_bare : Component-F Component block.Block → Component
+layer_bare v = component_bare (component.map-Component Component block.Block Component block.Block (fold-Component Component block.Block component_bare block_bare) (block.fold-Block Component block.Block component_bare block_bare) v)
+
+pub bare-Single : (p : Piece) → bare (component.Single p) ≡ component.Single (placeless p)
+bare-Single p = fold_out-Component Component block.Block component_bare block_bare (component.Single p) ∙ ap layer_bare (outs-Single p)
+
+pub bare-Block : (b : block.Block) → bare (component.Block b) ≡ component.Block (bare_block b)
+bare-Block b = fold_out-Component Component block.Block component_bare block_bare (component.Block b) ∙ ap layer_bare (outs-Block b) ∙ ap component.Block (block.fold_out-Block Component block.Block component_bare block_bare b)
 
 -- each with its values and functions at 0
 abbrev pub bare_steps : Steps Supports
