@@ -35,13 +35,13 @@ fn id_sign<'a>(text: &str, name: Text<'a>, at: u32) -> Sign<'a>
 fn delim_sign<'a>(text: &str, at: u32) -> Sign<'a>
     ensures { result ≡ delim_sign text.now at }
 {
-    match text {
-        ">" => Sign::Joint(Combinator::Child),
-        "+" => Sign::Joint(Combinator::Next),
-        "~" => Sign::Joint(Combinator::Later),
-        "*" => Sign::Star,
-        "." => Sign::Dot(at),
-        "&" => Sign::Whole(Simple::Parent, at),
+    match text.as_bytes() {
+        [b'>'] => Sign::Joint(Combinator::Child),
+        [b'+'] => Sign::Joint(Combinator::Next),
+        [b'~'] => Sign::Joint(Combinator::Later),
+        [b'*'] => Sign::Star,
+        [b'.'] => Sign::Dot(at),
+        [b'&'] => Sign::Whole(Simple::Parent, at),
         _ => Sign::Other,
     }
 }

@@ -371,6 +371,7 @@ impl<'a> Reading<'a> {
     }
 }
 
+#[inline(always)]
 fn chained<'a>(alloc: Global, at: u32, reading: Reading<'a>) -> Result<Selector<'a>, OutOfMemory>
     ensures { IfOk result (λ r. r ≡ chained at reading.entry.lead reading.entry.front reading.entry.compound []) }
 {
@@ -428,6 +429,7 @@ impl<'a> Pending<'a> {
 }
 
 /// The selector that a member spells. One that spells none is refused at its first token, or where it ends.
+#[inline(always)]
 fn conclude<'a>(
     alloc: Global,
     pending: Pending<'a>,
@@ -499,6 +501,7 @@ impl<'a> Listing<'a> {
     }
 
     /// The list, where the last member is one.
+    #[inline(always)]
     pub fn finish(self, alloc: Global, end: u32) -> Result<List<Selector<'a>>, SelectorFault>
         ensures found { IfOk result (λ list. listing_end self.entry end ≡ Ok list) }
         ensures fault { IfErr result (λ e. FaultIs e (listing_end self.entry end)) }
