@@ -4,13 +4,14 @@ use Rattle.std.proofs.lemmas.List.{map-append, map-id}
 use Rattle.css_tokens.specs.declared.component.Component.{Component}
 use Rattle.selector_types.specs.Erased.{erased}
 use Rattle.selector_types.specs.declared.selector.Selector.{Selector}
-use Rattle.css_rules.specs.declared.sheet.Declaration.{Declaration}
-use Rattle.css_rules.specs.declared.sheet.Item.{Item}
-use Rattle.css_rules.specs.declared.sheet.Item as item
-use Rattle.css_rules.specs.BareItems.{bared, bare_item, bare_items, bare_sheet, bare_item-Plain, bare_item-Style}
+use Rattle.sheet_types.specs.declared.sheet.Declaration.{Declaration}
+use Rattle.sheet_types.specs.declared.sheet.Item.{Item}
+use Rattle.sheet_types.specs.declared.sheet.Item as item
+use Rattle.sheet_types.specs.BareItems.{bared, bare_item, bare_items, bare_sheet, bare_item-Plain, bare_item-Style}
 use Rattle.css_rules.specs.Cuts.{Cut, cuts}
 use Rattle.css_rules.specs.ReadAll.{read_all}
-use Rattle.css_rules.specs.Sheets.{ends_rule, rule_of, rules_of, run_of, sheet_of}
+use Rattle.css_rules.specs.Sheets.{ends_rule, rule_of, rules_of, sheet_of}
+use Rattle.sheet_types.specs.Runs.{run_of}
 use Rattle.css_rules.proofs.ReadAllLemmas.{mapped-all}
 
 pub bare-run_of : (ds : List Declaration) → bare_items (run_of ds) ≡ run_of (map bared ds)

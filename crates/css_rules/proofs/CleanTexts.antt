@@ -11,16 +11,16 @@ use Rattle.css_tokens.specs.Piece.{Word, spelled}
 use Rattle.css_tokens.specs.Tokens.{bad_place, is_control, mark_length, or_else}
 use Rattle.css_tokens.specs.Trees.{words_all}
 use Rattle.css_tokens.specs.Values.{is_gap, is_white, short_word, single_gaps, after_gap, word_kind, shortened_words, printed_words, value_words}
-use Rattle.css_rules.specs.declared.sheet.Declaration.{Declaration}
+use Rattle.sheet_types.specs.declared.sheet.Declaration.{Declaration}
 use Rattle.selector_types.specs.declared.selector.Selector.{Selector}
 use Rattle.selector_types.specs.Spelling.{list_text}
-use Rattle.css_rules.specs.declared.sheet.Item.{Item}
+use Rattle.sheet_types.specs.declared.sheet.Item.{Item}
 use Rattle.css_rules.specs.Printable.{IsPrintableDeclaration, IsPrintableLeaf, ArePrintable}
 use Rattle.selector_types.specs.ReadableSelectors.{is_clean, is_named, is_readable_list, is_spelled}
-use Rattle.css_rules.specs.SheetTexts.{braced_text, declaration_text, declarations_text, importance_text, items_text, more_declarations, printed_item, printed_value}
+use Rattle.sheet_types.specs.SheetTexts.{braced_text, declaration_text, declarations_text, importance_text, items_text, more_declarations, printed_item, printed_value}
 use Rattle.css_rules.proofs.CleanNames.{clean-append, clean-parts, name-clean, plain-clean}
 use Rattle.css_rules.proofs.DeclarationLemmas.{or_false_left, or_false_right}
-use Rattle.css_rules.proofs.ItemShapes.{TopCases, by_tops, text-empty, text-run}
+use Rattle.sheet_types.proofs.ItemShapes.{TopCases, by_tops, text-empty, text-run}
 use Rattle.css_rules.proofs.BoolLemmas.{and-left, and-right}
 use Rattle.css_rules.proofs.SoughtAgain.{any-after_gap, any-before_gap, any-parted, any-single_gaps}
 

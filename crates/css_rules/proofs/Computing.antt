@@ -17,12 +17,8 @@ use Rattle.selector_types.specs.declared.selector.Part as part
 use Rattle.selector_types.specs.declared.selector.Link.TheVariants.{outs-Linked}
 use Rattle.selector_types.specs.SelectorFold.{Steps, made_part, made_link, folded_compound, folded_selector, folded-Class, folded-Id, folded-Attribute, folded-Pseudo, folded-Not, folded-Is, folded-Where, folded-Parent, folded-Local, folded-Global, folded-Foreign, folded-Compound, folded-Selector}
 use Rattle.selector_tree.specs.Signs.{mark_of, mark_of-Single, mark_of-Block, block_mark}
-use Rattle.css_rules.specs.Erased.{erased-Single}
-use Rattle.selector_types.specs.declared.selector.Selector.{Selector}
-use Rattle.css_rules.specs.declared.sheet.Declaration.{Declaration}
-use Rattle.css_rules.specs.declared.sheet.Item.{Item}
-use Rattle.css_rules.specs.declared.sheet.Item as item
-use Rattle.css_rules.specs.ItemFold as items
+use Rattle.sheet_types.specs.Erased.{erased-Single}
+use Rattle.sheet_types.proofs.Computing.{made-plain, made-rule}
 
 -- a block, and its tokens
 pub block-out : (opening : Piece) (items : List Component) (close : ℕ)
@@ -32,14 +28,6 @@ block-out opening items close = outs-Block (record { opening = opening; items = 
 pub block-pieces : (opening : Piece) (items : List Component) (close : ℕ)
     → pieces_of (component.Block (record { opening = opening; items = items; close = close })) ≡ opening ∷ pieces_all items ++ closing opening close ∷ []
 block-pieces opening items close = pieces_of-Block (record { opening = opening; items = items; close = close })
-
--- what is made of items that are written out
-pub made-plain : {A : Type 0} (steps : items.Steps A) (ds : List Declaration) → items.folded steps (item.Plain ds) ≡ steps.plain ds
-made-plain steps ds = items.folded-Plain steps ds
-
-pub made-rule : {A : Type 0} (steps : items.Steps A) (selectors : List Selector) (inner : List Item) (at : ℕ)
-    → items.folded steps (item.Style (record { selectors = selectors; items = inner; at = at })) ≡ steps.style selectors at (map (items.folded steps) inner)
-made-rule steps selectors inner at = items.folded-Style steps (record { selectors = selectors; items = inner; at = at })
 
 -- a compound and a selector that are written out
 pub made-compound : {M K S : Type 0} (steps : Steps M K S) (kind : TypeName) (parts : List part.Part) (tail : Option tail.Tail)

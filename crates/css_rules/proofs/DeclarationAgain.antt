@@ -12,22 +12,22 @@ use Rattle.css_tokens.specs.Trees.{all_formed, words_all}
 use Rattle.css_tokens.specs.ValueAgain.{value_again}
 use Rattle.std.proofs.Math.Bool.{and-false}
 use Rattle.css_tokens.specs.Values.{is_gap as is_gap_kind}
-use Rattle.css_rules.specs.declared.sheet.Declaration.{Declaration}
+use Rattle.sheet_types.specs.declared.sheet.Declaration.{Declaration}
 use Rattle.css_rules.specs.Components.{head, is_bang, is_braces, is_semicolon, is_gap, is_custom, is_keyword, layer_is_single, layer_head, is_ident_kind, is_semicolon_kind, name_of}
 use Rattle.css_rules.specs.Cuts.{cuts_at, trimmed, trimmed_start, trimmed_end}
 use Rattle.css_rules.specs.Declarations.{property_name, after_colon, may_be_value, is_important, value_of, declared, declared_after, declaration_of, begins_custom}
 use Rattle.css_rules.specs.Refusals.{has_sought, is_unbuilt_property, sought_for}
 use Rattle.css_rules.specs.Sheets.{begins_at_rule, built, ends_in_braces, ends_item, is_unbuilt, item_of, plain_item}
-use Rattle.css_rules.specs.Statements.{bare_declaration}
+use Rattle.sheet_types.specs.Statements.{bare_declaration}
 use Rattle.css_rules.specs.Printable.{IsPrintableDeclaration, begins_solid}
 use Rattle.css_rules.proofs.Heads.{word, single_of}
-use Rattle.css_rules.specs.SheetAgain.{value_or_space, importance_again, declaration_again}
+use Rattle.sheet_types.specs.SheetAgain.{value_or_space, importance_again, declaration_again}
 use Rattle.selector_types.specs.Spelling.{colon, space}
 use Rattle.css_rules.proofs.CutLemmas.{goes_on, not-true, trimmed_start-gap, trimmed_start-other, trimmed_end-other, trimmed_end-gap}
 use Rattle.css_rules.proofs.DeclarationLemmas.{or_false_left, or_false_right}
 use Rattle.css_rules.proofs.CutAgain.{cuts-front, cuts-whole, any-append, trimmed_end-solid, any-trimmed_end}
 use Rattle.css_rules.proofs.Heads.{piece_of, head-Single, gap-Single, ident-Single, at-Single, colon-Single, semicolon-Single, bang-Single, braces-Single}
-use Rattle.css_rules.proofs.PlacesTrees.{same-erased}
+use Rattle.sheet_types.proofs.PlacesTrees.{same-erased}
 use Rattle.css_rules.proofs.ValueFacts.{ValueLaws, any-value, semicolon_layer, bang_layer, braces_layer, trimmed-value, trimmed_end-value, printed-some}
 use Rattle.css_rules.proofs.SoughtAgain.{unsought-again}
 

@@ -7,23 +7,24 @@ use Rattle.std.proofs.lemmas.List.Concat.{flat_map-append}
 use Rattle.css_tokens.specs.declared.component.Component.{Component}
 use Rattle.css_tokens.specs.Trees.{all_formed, words_all}
 use Rattle.selector_types.specs.declared.selector.Selector.{Selector}
-use Rattle.css_rules.specs.declared.sheet.Sheet.{Sheet}
-use Rattle.css_rules.specs.declared.sheet.Declaration.{Declaration}
-use Rattle.css_rules.specs.declared.sheet.Item.{Item}
-use Rattle.css_rules.specs.declared.sheet.Item as item
-use Rattle.css_rules.specs.declared.sheet.Style as style
+use Rattle.sheet_types.specs.declared.sheet.Sheet.{Sheet}
+use Rattle.sheet_types.specs.declared.sheet.Declaration.{Declaration}
+use Rattle.sheet_types.specs.declared.sheet.Item.{Item}
+use Rattle.sheet_types.specs.declared.sheet.Item as item
+use Rattle.sheet_types.specs.declared.sheet.Style as style
 use Rattle.selector_tree.specs.Signs.{list_reading}
 use Rattle.selector_types.specs.Spelling.{list_spelling}
 use Rattle.css_rules.specs.Components.{inside, is_braces, is_semicolon}
 use Rattle.css_rules.specs.Cuts.{Cut, cuts, trimmed_start}
-use Rattle.css_rules.specs.Leaves.{IsTop, OfDeclaration, all_leaves, leaves, rule_leaves}
+use Rattle.sheet_types.specs.Leaves.{IsTop, OfDeclaration, all_leaves, leaves, rule_leaves}
 use Rattle.css_rules.specs.Printable.{is_whole, all_whole, IsPrintableDeclaration, IsPrintableLeaf, ArePrintable}
 use Rattle.css_rules.specs.Refusals.{has_waiting}
 use Rattle.selector_types.specs.ReadableSelectors.{is_readable_list, is_spelled, is_writable_list}
-use Rattle.css_rules.specs.Sheets.{begins_at_rule, ends_rule, run_of, rule_of, sheet_of}
+use Rattle.css_rules.specs.Sheets.{begins_at_rule, ends_rule, rule_of, sheet_of}
+use Rattle.sheet_types.specs.Runs.{run_of}
 use Rattle.css_rules.proofs.BoolLemmas.{and-left, and-right}
 use Rattle.css_rules.proofs.FromSourceDeclarations.{each-append, block-printable}
-use Rattle.css_rules.proofs.ItemShapes.{leaves-hold, only-leaves, rule-top}
+use Rattle.sheet_types.proofs.ItemShapes.{leaves-hold, only-leaves, rule-top}
 use Rattle.css_rules.proofs.ListsRead.{list-found}
 use Rattle.css_rules.proofs.ReadAllLemmas.{read_all-holds}
 use Rattle.css_rules.proofs.RuleShapes.{prelude-shape, rule-shape, sheet-items}

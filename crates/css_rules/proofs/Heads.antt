@@ -10,6 +10,7 @@ use Rattle.css_tokens.specs.declared.kind.Kind.{Kind}
 use Rattle.css_tokens.specs.Piece.{Piece, Word}
 use Rattle.css_tokens.specs.Trees.{is_text, pieces_of, component_pieces, block_pieces}
 use Rattle.css_tokens.specs.Values.{is_gap as is_gap_kind}
+pub use Rattle.sheet_types.proofs.PlacesTrees.{piece_of}
 use Rattle.css_rules.specs.Components.{layer_head, layer_is_single, layer_items, head, inside, is_gap, is_ident, is_at_keyword, is_colon, is_semicolon, is_bang, is_braces, is_ident_kind, is_at_kind, is_colon_kind, is_semicolon_kind, is_delim_kind, is_comma, is_comma_kind}
 
 -- the word of this kind and this text
@@ -19,10 +20,6 @@ word kind text = record { kind = kind; text = text }
 -- a word as a component, at the place 0
 abbrev pub single_of : Word → Component
 single_of w = component.Single (record { kind = w.kind; text = w.text; at = 0 })
-
--- the piece of a word at the place 0
-abbrev pub piece_of : Word → Piece
-piece_of w = record { kind = w.kind; text = w.text; at = 0 }
 
 pub head-Single : (p : Piece) → head (component.Single p) ≡ p
 head-Single p = ap layer_head (outs-Single p)

@@ -5,7 +5,7 @@ use Rattle.std.proofs.lemmas.List.{append_assoc, append-nil}
 use Rattle.css_tokens.specs.declared.component.Component.{Component}
 use Rattle.css_rules.specs.Cuts.{Cut}
 use Rattle.css_rules.specs.ReadAll.{joined, read_all}
-use Rattle.css_rules.specs.SheetAgain.{line_feed}
+use Rattle.sheet_types.specs.SheetAgain.{line_feed}
 use Rattle.css_rules.proofs.PreludeAgain.{lead_of}
 
 -- a front and its mark are cut off, whatever follows, and with a line feed before them too

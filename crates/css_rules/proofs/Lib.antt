@@ -1,6 +1,7 @@
 pub mod ReadAllLemmas
 pub mod CutLemmas
 pub mod CutMarks
+pub mod SpanLemmas
 pub mod SoughtLemmas
 pub mod SoughtTold
 pub mod DeclarationLemmas
@@ -25,8 +26,6 @@ pub mod DeclarationAgain
 pub mod SheetRound
 pub mod PreludeAgain
 pub mod BareLemmas
-pub mod SaidItems
-pub mod ItemShapes
 pub mod ItemLists
 pub mod RulesAgain
 pub mod RuleShapes
@@ -36,7 +35,6 @@ pub mod FromSourceParts
 pub mod FromSourceDeclarations
 pub mod FromSourceRules
 pub mod SheetSpelled
-pub mod PlacesTrees
 pub mod PlacesLayers
 pub mod PlacesCuts
 pub mod Places

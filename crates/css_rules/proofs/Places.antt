@@ -4,22 +4,23 @@ use Rattle.css_tokens.specs.declared.component.Component.{Component}
 use Rattle.css_tokens.specs.Trees.{words_all, all_formed, is_formed}
 use Rattle.std.specs.List.{AllByRecursion}
 use Rattle.selector_types.specs.declared.selector.Selector.{Selector}
-use Rattle.css_rules.specs.declared.sheet.Declaration.{Declaration}
-use Rattle.css_rules.specs.declared.sheet.Item.{Item}
-use Rattle.css_rules.specs.declared.sheet.Item as item
+use Rattle.sheet_types.specs.declared.sheet.Declaration.{Declaration}
+use Rattle.sheet_types.specs.declared.sheet.Item.{Item}
+use Rattle.sheet_types.specs.declared.sheet.Item as item
 use Rattle.selector_types.specs.Erased.{erased as erased_selector}
 use Rattle.selector_tree.specs.Signs.{list_in, mark_of}
-use Rattle.css_rules.specs.BareItems.{bared, bare_items, bare_sheet}
+use Rattle.sheet_types.specs.BareItems.{bared, bare_items, bare_sheet}
 use Rattle.css_rules.specs.Components.{inside, is_braces, is_semicolon}
 use Rattle.css_rules.specs.Cuts.{Cut, cuts, trimmed, trimmed_start}
 use Rattle.css_rules.specs.ReadAll.{joined, read_all}
 use Rattle.css_rules.specs.Refusals.{has_waiting}
-use Rattle.css_rules.specs.Sheets.{begins_at_rule, ends_rule, declarations_of, run_of, prelude_of, style_with, leftover, style_of, sheet_of}
+use Rattle.css_rules.specs.Sheets.{begins_at_rule, ends_rule, declarations_of, prelude_of, style_with, leftover, style_of, sheet_of}
+use Rattle.sheet_types.specs.Runs.{run_of}
 use Rattle.css_rules.proofs.BareLemmas.{bare-rule, bare-sheet_of, bare_rule_of}
 use Rattle.css_rules.proofs.FromSourceParts.{IsPart, parts-cuts}
-use Rattle.css_rules.proofs.PlacesTrees.{OnePairing, all_formed-erased, same-erased, words-erased}
+use Rattle.sheet_types.proofs.PlacesTrees.{OnePairing, all_formed-erased, same-erased, words-erased}
 use Rattle.css_rules.proofs.WaitingLemmas.{waiting-words}
-use Rattle.css_rules.specs.Erased.{erased}
+use Rattle.sheet_types.specs.Erased.{erased}
 use Rattle.css_rules.proofs.PlacesLayers.{inside-erased}
 use Rattle.css_rules.proofs.PlacesCuts.{erased_cut, erased_declaration, at_rule-erased, cuts-erased, declarations-erased, bareds-erased, ends_rule-erased, trimmed-erased}
 

@@ -4,7 +4,7 @@ use Rattle.std.specs.List.{list_any, list_all}
 use Rattle.std.proofs.lemmas.List.{map-append}
 use Rattle.css_tokens.specs.declared.component.Component.{Component}
 use Rattle.css_tokens.specs.Piece.{Piece}
-use Rattle.css_rules.specs.declared.sheet.Declaration.{Declaration}
+use Rattle.sheet_types.specs.declared.sheet.Declaration.{Declaration}
 use Rattle.css_rules.specs.Components.{head, is_gap, is_ident, is_colon, is_semicolon, is_bang, is_braces, is_custom, is_keyword, name_of}
 use Rattle.css_rules.specs.Cuts.{Cut, cuts, cuts_at, cuts_behind, with_front, trimmed, trimmed_start, trimmed_end}
 use Rattle.css_rules.specs.Declarations.{property_name, after_colon, may_be_value, is_important, value_of, declared, declared_after, declaration_of, begins_custom}
@@ -14,9 +14,9 @@ use Rattle.css_rules.specs.Refusals.{has_sought, is_unbuilt_property, sought_for
 use Rattle.css_rules.specs.Sheets.{begins_at_rule, built, declarations_of, ends_in_braces, ends_item, ends_rule, is_rule, is_unbuilt, item_of, plain_item}
 use Rattle.css_rules.proofs.ReadAllLemmas.{mapped-all}
 use Rattle.css_rules.proofs.SoughtAgain.{sought-words, word_sought}
-use Rattle.css_rules.specs.BareItems.{bared}
-use Rattle.css_rules.proofs.PlacesTrees.{bare_value-erased, words-erased}
-use Rattle.css_rules.specs.Erased.{placeless, erased}
+use Rattle.sheet_types.specs.BareItems.{bared}
+use Rattle.sheet_types.proofs.PlacesTrees.{bare_value-erased, words-erased}
+use Rattle.sheet_types.specs.Erased.{placeless, erased}
 use Rattle.css_rules.proofs.PlacesLayers.{head-erased, gap-erased, ident-erased, at-erased, colon-erased, semicolon-erased, bang-erased, braces-erased}
 
 -- Lists.

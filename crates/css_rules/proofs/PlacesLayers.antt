@@ -8,7 +8,7 @@ use Rattle.css_tokens.specs.Trees.{is_text}
 use Rattle.css_tokens.specs.Values.{is_gap as is_gap_kind}
 use Rattle.css_rules.specs.Components.{Layer, layer_head, layer_is_single, layer_items, head, inside, is_gap, is_ident, is_at_keyword, is_colon, is_semicolon, is_bang, is_braces, is_ident_kind, is_at_kind, is_colon_kind, is_semicolon_kind, is_delim_kind}
 use Rattle.css_rules.proofs.ValueFacts.{shape_of}
-use Rattle.css_rules.specs.Erased.{placeless, erased, erased_block, erased-Single, erased-Block}
+use Rattle.sheet_types.specs.Erased.{placeless, erased, erased_block, erased-Single, erased-Block}
 
 abbrev erased_layer : Layer → Layer
 erased_layer (Single p) = Single (placeless p)

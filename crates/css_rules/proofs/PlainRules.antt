@@ -11,10 +11,11 @@ use Rattle.selector_tree.specs.Signs.{list_reading, mark_of}
 use Rattle.css_rules.specs.Components.{inside}
 use Rattle.css_rules.specs.Cuts.{Cut, cuts}
 use Rattle.css_rules.specs.PlainRules.{IsPlainRule, is_unled}
-use Rattle.css_rules.specs.Sheets.{declarations_of, ends_item, ends_rule, is_unbuilt, item_of, rule_of, run_of, sheet_of}
-use Rattle.css_rules.specs.declared.sheet.Declaration.{Declaration}
-use Rattle.css_rules.specs.declared.sheet.Item.{Item}
-use Rattle.css_rules.specs.declared.sheet.Sheet.{Sheet}
+use Rattle.css_rules.specs.Sheets.{declarations_of, ends_item, ends_rule, is_unbuilt, item_of, rule_of, sheet_of}
+use Rattle.sheet_types.specs.Runs.{run_of}
+use Rattle.sheet_types.specs.declared.sheet.Declaration.{Declaration}
+use Rattle.sheet_types.specs.declared.sheet.Item.{Item}
+use Rattle.sheet_types.specs.declared.sheet.Sheet.{Sheet}
 use Rattle.css_rules.proofs.BoolLemmas.{and-both}
 use Rattle.css_rules.proofs.FromSourceDeclarations.{each-append}
 use Rattle.css_rules.proofs.ListsRead.{list-found}

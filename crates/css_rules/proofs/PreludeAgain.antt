@@ -10,7 +10,7 @@ use Rattle.selector_tree.specs.declared.sign.Sign.TheVariants as signs
 use Rattle.selector_tree.specs.Grammar.{Mark, cut_at_commas, first_and, first_place, members_reading, fault_place, or_fault, selector_of, selector_of_runs, lead_of as leading, behind_lead, runs_of, spaced, stripped, white_before, with_mark}
 use Rattle.selector_tree.specs.Signs.{list_in, mark_of, mark_of-Single, read, token_mark}
 use Rattle.css_rules.specs.Refusals.{has_waiting}
-use Rattle.css_rules.specs.SheetAgain.{line_feed}
+use Rattle.sheet_types.specs.SheetAgain.{line_feed}
 use Rattle.css_rules.specs.Sheets.{prelude_of}
 use Rattle.css_rules.specs.declared.waiting.Seen.TheVariants.{Nothing}
 use Rattle.css_rules.specs.Private.Waiting.{place_seen, seen_over}

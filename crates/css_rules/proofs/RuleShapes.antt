@@ -3,15 +3,16 @@ use Rattle.std.proofs.Common.{◌≡◌, ℕ, List, [], ◌∷◌, map, Bool, tr
 use Rattle.css_tokens.specs.declared.component.Component.{Component}
 use Rattle.selector_tree.specs.Signs.{list_in, mark_of}
 use Rattle.selector_types.specs.declared.selector.Selector.{Selector}
-use Rattle.css_rules.specs.declared.sheet.Declaration.{Declaration}
-use Rattle.css_rules.specs.declared.sheet.Item.{Item}
-use Rattle.css_rules.specs.declared.sheet.Item as item
-use Rattle.css_rules.specs.declared.sheet.Sheet.{Sheet}
+use Rattle.sheet_types.specs.declared.sheet.Declaration.{Declaration}
+use Rattle.sheet_types.specs.declared.sheet.Item.{Item}
+use Rattle.sheet_types.specs.declared.sheet.Item as item
+use Rattle.sheet_types.specs.declared.sheet.Sheet.{Sheet}
 use Rattle.css_rules.specs.Components.{head, inside}
 use Rattle.css_rules.specs.Cuts.{Cut, trimmed}
 use Rattle.css_rules.specs.Declarations.{declaration_of}
 use Rattle.css_rules.specs.Refusals.{has_waiting}
-use Rattle.css_rules.specs.Sheets.{begins_at_rule, ends_in_braces, is_unbuilt, built, plain_item, is_rule, item_of, declarations_of, run_of, prelude_of, style_with, first_place, leftover, style_of, rule_of, rules_of, sheet_of}
+use Rattle.css_rules.specs.Sheets.{begins_at_rule, ends_in_braces, is_unbuilt, built, plain_item, is_rule, item_of, declarations_of, prelude_of, style_with, first_place, leftover, style_of, rule_of, rules_of, sheet_of}
+use Rattle.sheet_types.specs.Runs.{run_of}
 use Rattle.css_rules.proofs.CutLemmas.{or-right}
 
 unless-some : {A : Type 0} (b : Bool) (o : Option A) (x : A) → cond b None o ≡ Some x → (b ≡ false) × (o ≡ Some x)

@@ -8,29 +8,30 @@ use Rattle.css_tokens.specs.declared.component.Component.{Component}
 use Rattle.css_tokens.specs.declared.component.Block as block
 use Rattle.css_tokens.specs.Trees.{all_formed, words_all}
 use Rattle.selector_types.specs.Preludes.{is_prelude_word}
-use Rattle.css_rules.specs.declared.sheet.Declaration.{Declaration}
-use Rattle.css_rules.specs.declared.sheet.Item.{Item}
-use Rattle.css_rules.specs.declared.sheet.Item as item
-use Rattle.css_rules.specs.declared.sheet.Style as style
+use Rattle.sheet_types.specs.declared.sheet.Declaration.{Declaration}
+use Rattle.sheet_types.specs.declared.sheet.Item.{Item}
+use Rattle.sheet_types.specs.declared.sheet.Item as item
+use Rattle.sheet_types.specs.declared.sheet.Style as style
 use Rattle.selector_types.specs.Erased.{erased}
 use Rattle.selector_types.specs.Spelling.{list_spelling}
 use Rattle.selector_tree.specs.Signs.{list_in, mark_of}
-use Rattle.css_rules.specs.BareItems.{bared, bare_item, bare_items, bare_sheet, bare_item-Style, filled_item, filled_items}
+use Rattle.sheet_types.specs.BareItems.{bared, bare_item, bare_items, bare_sheet, bare_item-Style, filled_item, filled_items}
 use Rattle.css_rules.specs.Components.{head, inside, is_braces, is_semicolon, is_at_keyword, is_gap}
 use Rattle.css_rules.specs.Cuts.{cuts, trimmed, trimmed_start, trimmed_end}
 use Rattle.selector_types.specs.declared.selector.Selector.{Selector}
 use Rattle.selector_types.specs.ReadableSelectors.{is_readable_list}
 use Rattle.css_rules.specs.ReadAll.{joined, read_all}
-use Rattle.css_rules.specs.Sheets.{begins_at_rule, declarations_of, ends_rule, first_place, leftover, run_of, sheet_of, style_of, style_with}
+use Rattle.css_rules.specs.Sheets.{begins_at_rule, declarations_of, ends_rule, first_place, leftover, sheet_of, style_of, style_with}
+use Rattle.sheet_types.specs.Runs.{run_of}
 use Rattle.css_rules.specs.Printable.{ArePrintable, IsPrintableDeclaration, IsPrintableLeaf, IsPrintableList}
-use Rattle.css_rules.specs.SheetAgain.{line_feed, braces, declarations_again, item_again, items_again}
+use Rattle.sheet_types.specs.SheetAgain.{line_feed, braces, declarations_again, item_again, items_again}
 use Rattle.css_rules.proofs.BareLemmas.{bare-rule, bare-run_of, bare-sheet_of, bare_rule_of}
 use Rattle.css_rules.proofs.CutLemmas.{front-cut, goes_on, trimmed_start-gap, whole-cut}
 use Rattle.css_rules.proofs.CutAgain.{any-append, any-trimmed_end}
 use Rattle.css_rules.proofs.DeclarationLemmas.{or_false_left, or_false_right}
 use Rattle.css_rules.proofs.Heads.{piece_of, word, inside-Block, at-Single, braces-Single, braces-Block, gap-Single, semicolon-Single}
 use Rattle.css_rules.proofs.ItemLists.{IsCutOff, IsPart, parts-of}
-use Rattle.css_rules.proofs.ItemShapes.{IsRun, TopCases, again-empty, again-run, by_tops, filled-empty, filled-run}
+use Rattle.sheet_types.proofs.ItemShapes.{IsRun, TopCases, again-empty, again-run, by_tops, filled-empty, filled-run}
 use Rattle.css_rules.proofs.ValueFacts.{ValueLaws}
 use Rattle.css_rules.proofs.DeclarationAgain.{read_again}
 use Rattle.css_rules.proofs.SheetRound.{NameLaws, declarations-again, bareds-again}

@@ -14,21 +14,21 @@ use Rattle.css_tokens.specs.Tokens.{ReadsTo, Reads, classes_of, is_refused, afte
 use Rattle.css_tokens.specs.Trees.{words_all, all_formed}
 use Rattle.css_tokens.specs.Values.{value_text, value_words}
 use Rattle.css_tokens.specs.ValueAgain.{value_again}
-use Rattle.css_rules.specs.declared.sheet.Declaration.{Declaration}
+use Rattle.sheet_types.specs.declared.sheet.Declaration.{Declaration}
 use Rattle.selector_types.specs.declared.selector.Selector.{Selector}
 use Rattle.selector_types.specs.Spelling.{colon, list_spelling, list_text}
 use Rattle.selector_types.specs.ReadableSelectors.{is_readable_list}
 use Rattle.css_rules.specs.Components.{is_gap}
-use Rattle.css_rules.specs.declared.sheet.Item.{Item}
-use Rattle.css_rules.specs.Leaves.{Leaf, OfDeclaration, all_leaves}
+use Rattle.sheet_types.specs.declared.sheet.Item.{Item}
+use Rattle.sheet_types.specs.Leaves.{Leaf, OfDeclaration, all_leaves}
 use Rattle.css_rules.specs.Printable.{IsPrintableDeclaration, IsPrintableLeaf, ArePrintable, begins_solid}
-use Rattle.css_rules.specs.Standing.{Stands, LeafStands, AllStand}
-use Rattle.css_rules.specs.SheetTexts.{items_text}
-use Rattle.css_rules.specs.SheetAgain.{semicolon, line_feed, value_or_space, importance_again, declaration_again, declarations_again, braces, item_again, items_again}
+use Rattle.sheet_types.specs.Standing.{Stands, LeafStands, AllStand}
+use Rattle.sheet_types.specs.SheetTexts.{items_text}
+use Rattle.sheet_types.specs.SheetAgain.{semicolon, line_feed, value_or_space, importance_again, declaration_again, declarations_again, braces, item_again, items_again}
 use Rattle.css_rules.proofs.CleanTexts.{ListTexts, clean-bad, items-clean, items-unmarked}
 use Rattle.css_rules.proofs.Heads.{single_of, word}
 use Rattle.css_rules.proofs.ImportantNames.{important-name}
-use Rattle.css_rules.proofs.ItemShapes.{TopCases, again-empty, again-run, by_tops}
+use Rattle.sheet_types.proofs.ItemShapes.{TopCases, again-empty, again-run, by_tops}
 use Rattle.css_rules.proofs.PreludeAgain.{words-cons}
 use Rattle.css_rules.proofs.ValueFacts.{ValueLaws, printed-some}
 use Rattle.css_rules.proofs.SheetSpelled.{text_of, words-append, text-append, text-cons, words-braces, text-braces, text-importance, items-spelled}

@@ -4,16 +4,16 @@ use Rattle.std.specs.List.{AllByRecursion}
 use Rattle.std.proofs.lemmas.List.{append-nil}
 use Rattle.css_tokens.specs.NameText.{name_text}
 use Rattle.css_tokens.specs.Names.{is_name, name_of_word}
-use Rattle.css_rules.specs.declared.sheet.Declaration.{Declaration}
+use Rattle.sheet_types.specs.declared.sheet.Declaration.{Declaration}
 use Rattle.css_rules.specs.Components.{is_braces, is_semicolon}
 use Rattle.css_rules.specs.Cuts.{trimmed_start}
 use Rattle.css_rules.specs.Declarations.{begins_custom}
 use Rattle.css_rules.specs.ReadAll.{joined, read_all}
 use Rattle.css_rules.specs.Sheets.{declarations_of, ends_item, item_of}
-use Rattle.css_rules.specs.BareItems.{bared}
-use Rattle.css_rules.specs.Statements.{BareDeclaration}
+use Rattle.sheet_types.specs.BareItems.{bared}
+use Rattle.sheet_types.specs.Statements.{BareDeclaration}
 use Rattle.css_rules.specs.Printable.{IsPrintableDeclaration}
-use Rattle.css_rules.specs.SheetAgain.{semicolon, declaration_again, more_again, declarations_again}
+use Rattle.sheet_types.specs.SheetAgain.{semicolon, declaration_again, more_again, declarations_again}
 use Rattle.css_rules.proofs.Heads.{word}
 use Rattle.css_tokens.specs.declared.kind.Kind.TheVariants as kinds
 use Rattle.css_rules.proofs.CutLemmas.{front-cut, whole-cut}

@@ -10,16 +10,16 @@ use Rattle.css_tokens.specs.Piece.{Piece, Word, word_of, spelled}
 use Rattle.css_tokens.specs.NameText.{name_text}
 use Rattle.css_tokens.specs.Trees.{pieces_all, pieces_of, words_all, all_formed, is_formed, is_formed-Single, is_formed-Block, pieces_of-Block, closing}
 use Rattle.css_tokens.specs.ValueAgain.{value_again}
-use Rattle.css_rules.specs.declared.sheet.Declaration.{Declaration}
+use Rattle.sheet_types.specs.declared.sheet.Declaration.{Declaration}
 use Rattle.selector_types.specs.declared.selector.Selector.{Selector}
 use Rattle.selector_types.specs.Spelling.{colon, list_spelling, list_text}
-use Rattle.css_rules.specs.declared.sheet.Item.{Item}
+use Rattle.sheet_types.specs.declared.sheet.Item.{Item}
 use Rattle.css_rules.specs.Components.{is_gap}
 use Rattle.css_rules.specs.Printable.{IsPrintableDeclaration, IsPrintableLeaf, ArePrintable, begins_solid}
-use Rattle.css_rules.specs.SheetTexts.{printed_value, importance_text, declaration_text, more_declarations, declarations_text, braced_text, printed_item, items_text}
-use Rattle.css_rules.specs.SheetAgain.{line_feed, value_or_space, importance_again, declaration_again, more_again, declarations_again, braces, item_again, items_again}
+use Rattle.sheet_types.specs.SheetTexts.{printed_value, importance_text, declaration_text, more_declarations, declarations_text, braced_text, printed_item, items_text}
+use Rattle.sheet_types.specs.SheetAgain.{line_feed, value_or_space, importance_again, declaration_again, more_again, declarations_again, braces, item_again, items_again}
 use Rattle.css_rules.proofs.Heads.{piece_of, single_of, word}
-use Rattle.css_rules.proofs.ItemShapes.{TopCases, again-empty, again-run, by_tops, text-empty, text-run}
+use Rattle.sheet_types.proofs.ItemShapes.{TopCases, again-empty, again-run, by_tops, text-empty, text-run}
 use Rattle.css_rules.proofs.PreludeAgain.{words-cons}
 use Rattle.css_rules.proofs.ValueFacts.{ValueLaws, printed-some}
 use Rattle.css_rules.proofs.RulesAgain.{brace_of}

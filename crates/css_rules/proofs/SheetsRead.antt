@@ -6,8 +6,8 @@ use Rattle.css_tokens.specs.Trees.{pieces_all}
 use Rattle.css_tokens.specs.declared.component.Component.{Component}
 use Rattle.css_rules.specs.declared.refusal.Refusal.{Refusal}
 use Rattle.selector_types.specs.declared.selector.Selector.{Selector}
-use Rattle.css_rules.specs.declared.sheet.Declaration.{Declaration}
-use Rattle.css_rules.specs.declared.sheet.Sheet.{Sheet}
+use Rattle.sheet_types.specs.declared.sheet.Declaration.{Declaration}
+use Rattle.sheet_types.specs.declared.sheet.Sheet.{Sheet}
 use Rattle.css_rules.specs.Components.{head, inside}
 use Rattle.css_rules.specs.Cuts.{Cut, cuts, trimmed}
 use Rattle.css_rules.specs.Declarations.{declaration_of}

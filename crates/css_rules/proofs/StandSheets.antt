@@ -9,19 +9,20 @@ use Rattle.css_tokens.specs.Again.{is_stop}
 use Rattle.css_tokens.specs.Piece.{Piece, spelled}
 use Rattle.css_tokens.specs.Tokens.{Reads, ReadsTo, classes_of, after_mark}
 use Rattle.css_tokens.specs.Trees.{words_all}
-use Rattle.css_rules.specs.declared.sheet.Declaration.{Declaration}
-use Rattle.css_rules.specs.declared.sheet.Item.{Item}
-use Rattle.css_rules.specs.declared.sheet.Item as item
-use Rattle.css_rules.specs.declared.sheet.Style as style
-use Rattle.css_rules.specs.declared.sheet.Sheet.{Sheet}
+use Rattle.sheet_types.specs.declared.sheet.Declaration.{Declaration}
+use Rattle.sheet_types.specs.declared.sheet.Item.{Item}
+use Rattle.sheet_types.specs.declared.sheet.Item as item
+use Rattle.sheet_types.specs.declared.sheet.Style as style
+use Rattle.sheet_types.specs.declared.sheet.Sheet.{Sheet}
 use Rattle.css_rules.specs.Components.{head, inside, is_ident, is_colon, is_bang, is_semicolon, is_braces, is_custom, name_of}
 use Rattle.css_rules.specs.Cuts.{Cut, cuts, cuts_at, trimmed, trimmed_start}
 use Rattle.css_rules.specs.Declarations.{property_name, after_colon, may_be_value, is_important, value_of, declared, declared_after, declaration_of, begins_custom}
-use Rattle.css_rules.specs.Leaves.{all_leaves, leaves}
-use Rattle.css_rules.specs.Sheets.{ends_rule, ends_item, item_of, declarations_of, run_of, rule_of, sheet_of}
-use Rattle.css_rules.specs.Standing.{Stands, LeafStands, AllStand}
+use Rattle.sheet_types.specs.Leaves.{all_leaves, leaves}
+use Rattle.css_rules.specs.Sheets.{ends_rule, ends_item, item_of, declarations_of, rule_of, sheet_of}
+use Rattle.sheet_types.specs.Runs.{run_of}
+use Rattle.sheet_types.specs.Standing.{Stands, LeafStands, AllStand}
 use Rattle.css_rules.proofs.FromSourceDeclarations.{each-append}
-use Rattle.css_rules.proofs.ItemShapes.{leaves-hold, only-leaves}
+use Rattle.sheet_types.proofs.ItemShapes.{leaves-hold, only-leaves}
 use Rattle.css_rules.proofs.StandCuts.{JoinsAt, Joins, joins-cuts, stands-start, stands-trimmed, MarkStands, FrontStands, ends_some_item, item-fronts, marks-stand, bang-stop}
 use Rattle.css_rules.proofs.ReadAllLemmas.{read_all-holds}
 use Rattle.css_rules.proofs.RuleShapes.{item-no_block, item-shape, rule-shape, sheet-items}

@@ -18,7 +18,7 @@ use Rattle.css_rules.specs.Components.{Layer, is_gap, is_semicolon, is_bang, is_
 use Rattle.css_rules.specs.Cuts.{trimmed, trimmed_end}
 use Rattle.css_rules.proofs.CutLemmas.{not-true, trimmed_start-other, trimmed_end-other}
 use Rattle.css_rules.proofs.CutAgain.{last_of}
-use Rattle.css_rules.proofs.PlacesTrees.{OnePairing}
+use Rattle.sheet_types.proofs.PlacesTrees.{OnePairing}
 use Rattle.css_rules.proofs.Heads.{gap-Single, gap-Block, semicolon-Single, semicolon-Block, bang-Single, bang-Block, braces-Single, braces-Block}
 
 -- what the token crate ensures of printed values

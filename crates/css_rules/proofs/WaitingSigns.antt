@@ -42,7 +42,7 @@ use Rattle.css_rules.specs.Components.{Layer, is_colon_kind}
 use Rattle.css_rules.specs.Private.Waiting.{begun, place_seen, seen_at, seen_over}
 use Rattle.css_rules.specs.Refusals.{has_waiting, is_ampersand, is_is}
 use Rattle.css_rules.proofs.BoolLemmas.{and-left, and-both}
-use Rattle.css_rules.proofs.PlacesTrees.{Each, by_components}
+use Rattle.sheet_types.proofs.PlacesTrees.{Each, by_components}
 use Rattle.css_rules.proofs.ValueFacts.{shape_of}
 use Rattle.css_rules.proofs.WaitingLemmas.{none-seen, over-Block, over-Single, over-cons, over-waiting}
 use Rattle.css_rules.proofs.WaitingTrees.{IsCalm, IsCalmCompound, IsCalmSimple, all_calm, calm, list-quiet}

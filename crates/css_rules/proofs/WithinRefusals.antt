@@ -10,7 +10,7 @@ use Rattle.css_rules.specs.declared.refusal.Refusal.{Refusal}
 use Rattle.css_rules.specs.declared.refusal.Sought.{Sought}
 use Rattle.selector_types.specs.declared.selector.Selector.{Selector}
 use Rattle.selector_tree.specs.Signs.{list_reading}
-use Rattle.css_rules.specs.declared.sheet.Declaration.{Declaration}
+use Rattle.sheet_types.specs.declared.sheet.Declaration.{Declaration}
 use Rattle.css_rules.specs.Components.{head, inside, is_ident, is_colon, is_bang, is_semicolon, is_braces, is_custom, name_of}
 use Rattle.css_rules.specs.Cuts.{Cut, cuts, cuts_at, trimmed, trimmed_start}
 use Rattle.css_rules.specs.Declarations.{property_name, after_colon, may_be_value, is_important, value_of, declared, declared_after, declaration_of, begins_custom}

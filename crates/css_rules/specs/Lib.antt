@@ -6,17 +6,7 @@ pub mod ReadAll
 pub mod Sheets
 pub mod SheetBuilding
 pub mod SelectorFaults
-pub mod Erased
-pub mod Contexts
-pub mod ItemFold
-pub mod ItemInduction
-pub mod Statements
-pub mod BareItems
-pub mod Leaves
-pub mod SheetTexts
-pub mod SheetAgain
 pub mod Printable
 pub mod PlainRules
-pub mod Standing
 pub mod Private
 pub mod Samples

@@ -8,11 +8,12 @@ use Rattle.selector_types.specs.declared.selector.Part as part
 use Rattle.selector_types.specs.declared.selector.Selector.{Selector}
 use Rattle.selector_types.specs.declared.selector.Simple.{Simple}
 use Rattle.selector_types.specs.declared.selector.Simple as simple
-use Rattle.css_rules.specs.Sheets.{is_unbuilt, run_of}
-use Rattle.css_rules.specs.declared.sheet.Declaration.{Declaration}
-use Rattle.css_rules.specs.declared.sheet.Item.{Item}
-use Rattle.css_rules.specs.declared.sheet.Item as item
-use Rattle.css_rules.specs.declared.sheet.Style as style
+use Rattle.css_rules.specs.Sheets.{is_unbuilt}
+use Rattle.sheet_types.specs.Runs.{run_of}
+use Rattle.sheet_types.specs.declared.sheet.Declaration.{Declaration}
+use Rattle.sheet_types.specs.declared.sheet.Item.{Item}
+use Rattle.sheet_types.specs.declared.sheet.Item as item
+use Rattle.sheet_types.specs.declared.sheet.Style as style
 
 -- Does it wait for a later stage: is it `&` (CSS Nesting 1, section 3) or `:is(..)` (Selectors 4, section 4.2)?
 abbrev pub opens_waiting : Opened → Bool

@@ -4,17 +4,20 @@ use Rattle.std.specs.List.{list_all, list_any, AllByRecursion}
 use Rattle.css_tokens.specs.declared.component.Component.{Component}
 use Rattle.css_tokens.specs.Trees.{all_formed, words_all}
 use Rattle.css_tokens.specs.Names.{is_name}
-use Rattle.css_rules.specs.declared.sheet.Declaration.{Declaration}
-use Rattle.css_rules.specs.declared.sheet.Item.{Item}
+use Rattle.sheet_types.specs.declared.sheet.Declaration.{Declaration}
+use Rattle.sheet_types.specs.declared.sheet.Item.{Item}
 use Rattle.selector_types.specs.declared.selector.Selector.{Selector}
 use Rattle.selector_types.specs.ReadableSelectors.{is_readable_list, is_spelled, is_writable_list}
 use Rattle.selector_types.specs.Spelling.{list_spelling}
 use Rattle.css_rules.specs.Components.{is_bang, is_semicolon, is_custom, is_gap}
 use Rattle.css_rules.specs.Declarations.{property_name, may_be_value}
-use Rattle.css_rules.specs.Leaves.{Leaf, OfDeclaration, OfList, IsTop, all_leaves}
+use Rattle.media_spelling.specs.SupportsAgain.{has_no_function}
+use Rattle.sheet_types.specs.declared.sheet.GroupCondition.{GroupCondition}
+use Rattle.sheet_types.specs.declared.sheet.GroupCondition.TheVariants.{Media, Supports}
+use Rattle.sheet_types.specs.Leaves.{Leaf, OfDeclaration, OfList, OfCondition, OfPassed, IsTop, all_leaves}
 use Rattle.css_rules.specs.Refusals.{has_waiting}
 use Rattle.css_rules.specs.Sheets.{is_unbuilt}
-use Rattle.css_rules.specs.declared.sheet.Sheet.{Sheet}
+use Rattle.sheet_types.specs.declared.sheet.Sheet.{Sheet}
 
 -- does neither white space nor a comment stand in front?
 abbrev pub begins_solid : List Component → Bool
@@ -38,21 +41,30 @@ pub record IsPrintableList (list : List Selector) : Type 0 where
   pub readable : is_readable_list false list ≡ true
   pub built : has_waiting (list_spelling list) ≡ false
 
--- a declaration or a selector list that reads as it again
+-- A declaration or a selector list that reads as it again. Conditions and rules that are passed on are not read yet, so none of them does.
 abbrev pub IsPrintableLeaf : Leaf → Type 0
 IsPrintableLeaf (OfDeclaration d) = IsPrintableDeclaration d
 IsPrintableLeaf (OfList list) = IsPrintableList list
+IsPrintableLeaf (OfCondition condition) = ⊥
+IsPrintableLeaf (OfPassed rule) = ⊥
 
 -- items that read as they again: each may stand at the top of a sheet, and all that is printed of them reads as it again
 pub record ArePrintable (items : List Item) : Type 0 where
   pub tops : AllByRecursion IsTop items
   pub fine : AllByRecursion IsPrintableLeaf (all_leaves items)
 
--- Is all kept of a selector list? Of a foreign function nothing is, and of the flag of an attribute selector only that it is there.
+-- Is all kept of a condition? Of a function in a supports condition only its place is.
+abbrev pub is_whole_condition : GroupCondition → Bool
+is_whole_condition (Media queries) = true
+is_whole_condition (Supports condition) = has_no_function condition
+
+-- Is all kept of what an item is made of? Of a foreign function in a selector nothing is, and of the flag of an attribute selector only that it is there.
 abbrev pub is_whole : Leaf → Bool
 is_whole (OfDeclaration d) = true
 is_whole (OfList list) = is_writable_list list
+is_whole (OfCondition condition) = is_whole_condition condition
+is_whole (OfPassed rule) = true
 
--- is all kept of each selector list of a sheet that is printed?
+-- is all kept of each selector list and each condition of a sheet that is printed?
 abbrev pub all_whole : Sheet → Bool
 all_whole sheet = list_all is_whole (all_leaves sheet.items)

@@ -3,3 +3,4 @@ pub mod Marks
 pub mod Waiting
 pub mod Faults
 pub mod Starts
+pub mod Spans

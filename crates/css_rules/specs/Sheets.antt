@@ -6,9 +6,10 @@ use Rattle.css_tokens.specs.declared.component.Component.{Component}
 use Rattle.css_rules.specs.declared.refusal.Refusal.{Refusal}
 use Rattle.selector_types.specs.declared.selector.Selector.{Selector}
 use Rattle.selector_tree.specs.Signs.{list_in, list_reading, mark_of}
-use Rattle.css_rules.specs.declared.sheet.Declaration.{Declaration}
-use Rattle.css_rules.specs.declared.sheet.Item.{Item, Style, Plain}
-use Rattle.css_rules.specs.declared.sheet.Sheet.{Sheet}
+use Rattle.sheet_types.specs.declared.sheet.Declaration.{Declaration}
+use Rattle.sheet_types.specs.Runs.{run_of}
+use Rattle.sheet_types.specs.declared.sheet.Item.{Item, Style}
+use Rattle.sheet_types.specs.declared.sheet.Sheet.{Sheet}
 use Rattle.css_rules.specs.declared.reader.RuleFault.{RuleFault}
 use Rattle.css_rules.specs.declared.reader.RuleFault.TheVariants as faults
 use Rattle.css_rules.specs.Components.{place_of, inside, is_at_keyword, is_semicolon, is_braces}
@@ -64,11 +65,6 @@ item_of cut = if is_rule cut then None else plain_item (trimmed cut.front)
 -- the declarations of a block, where each item has a reading
 abbrev pub declarations_of : List Component → Option (List Declaration)
 declarations_of block = read_all item_of (cuts ends_item block)
-
--- a run of declarations, where there is any
-abbrev pub run_of : List Declaration → List Item
-run_of [] = []
-run_of (d ∷ ds) = Plain (d ∷ ds) ∷ []
 
 -- Rules.
 

@@ -5,6 +5,7 @@ ghost use Rattle.std.specs.Option.{option_copied};
 ghost use Rattle.css_rules.specs.Components.{is_semicolon};
 ghost use Rattle.css_rules.specs.Cuts.{trimmed, trimmed_start, trimmed_end};
 ghost use Rattle.css_rules.specs.Private.Marks.{EndsAt, IsFirstMark, is_mark};
+ghost use Rattle.css_rules.specs.Private.Spans.{IsWithin, at_span};
 ghost use Rattle.css_rules.specs.Sheets.{ends_item, ends_rule};
 
 use crate::declaration::begins_custom;
@@ -41,7 +42,9 @@ impl Mark {
             Mark::BracesOrSemicolon => is_braces(component) || is_semicolon(component),
             Mark::Bang => {
                 let token = head_of(component);
-                is_token(component) && (matches!(token.kind, Kind::Delim) && token.text == "!")
+                is_token(component)
+                    && (matches!(token.kind, Kind::Delim)
+                        && matches!(token.text.as_bytes(), [b'!']))
             }
         }
     }
@@ -109,6 +112,26 @@ pub fn trimmed<'s, 'a>(components: &'s [Component<'a>]) -> &'s [Component<'a>]
     ensures { result.now ≡ trimmed components.now }
 {
     trimmed_end(trimmed_start(components))
+}
+
+/// The places of a list from one on and before another.
+#[derive(Clone, Copy, Debug)]
+pub struct Span {
+    pub from: usize,
+    pub to: usize,
+}
+
+/// Where the components stand that `trimmed` leaves.
+pub fn trimmed_span(components: &[Component]) -> Span
+    ensures items { at_span components.now result ≡ trimmed components.now }
+    ensures within { IsWithin result components.now }
+{
+    let rest = trimmed_start(components);
+    let from = components.len() - rest.len();
+    Span {
+        from,
+        to: from + trimmed_end(rest).len(),
+    }
 }
 
 /// The mark at a place, if the list goes so far.

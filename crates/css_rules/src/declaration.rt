@@ -1,17 +1,18 @@
 //! Declarations: a name, a colon, a value, and perhaps `!important` (CSS Syntax 3, section 5.4.6).
 
-ghost use Rattle.std.specs.Prelude.{◌≡◌, ◌∷◌, [], ◌&&◌, IfOk, IsTrue, length, not};
+ghost use Rattle.std.specs.Prelude.{◌≡◌, ◌∷◌, [], ◌&&◌, ◌+◌, ◌<◌, ◌≤◌, ◌^◌, IfOk, IfSome, IsTrue, length, not};
 ghost use Rattle.std.specs.List.{list_any};
 ghost use Rattle.std.specs.Char.{is_ascii_uppercase};
 ghost use Rattle.std.specs.Option.{option_map};
 ghost use Rattle.css_rules.specs.Components.{is_ident, is_ident_kind, is_colon, is_custom, is_bang, name_of};
 ghost use Rattle.css_rules.specs.Cuts.{cuts_at};
 ghost use Rattle.css_rules.specs.Declarations.{property_name, after_colon, is_important, may_be_value, value_of, declared, declaration_of, begins_custom};
+ghost use Rattle.css_rules.specs.Private.Spans.{IsWithin, StandsLast, at_span, behind, declared_in};
 
-use crate::cuts::{Mark, end_of_cut, trimmed, trimmed_start};
+use crate::cuts::{Mark, Span, end_of_cut, trimmed, trimmed_span, trimmed_start};
 use crate::parts::{head_of, is_block_in, is_keyword, is_token};
-use crate::sheet::Declaration;
-use css_tokens::{Component, Kind, OutOfMemory, Text, Token, copy_all, name_of};
+use css_tokens::{Component, Kind, OutOfMemory, Text, Token, name_of};
+use sheet_types::Declaration;
 use std::alloc::Global;
 
 fn is_ident(component: &Component) -> bool
@@ -80,25 +81,23 @@ fn is_important(alloc: Global, components: &[Component]) -> Result<bool, OutOfMe
     }
 }
 
-/// A value, and whether it is marked important.
-#[derive(Drop)]
-struct Marked<'s, 'a> {
-    value: &'s [Component<'a>],
+/// The place of a value, and whether it is marked important.
+#[derive(Clone, Copy, Debug)]
+struct Marked {
+    place: Span,
     important: bool,
 }
 
 /// The value behind a colon, and whether it is marked important. Nothing where a `!` stands elsewhere.
-fn marked_value<'s, 'a>(
-    alloc: Global,
-    tail: &'s [Component<'a>],
-) -> Result<Option<Marked<'s, 'a>>, OutOfMemory>
-    ensures { IfOk result (λ found. option_map (λ marked. (marked.value.now, marked.important)) found ≡ value_of (cuts_at is_bang tail.now)) }
+fn marked_value(alloc: Global, tail: &[Component]) -> Result<Option<Marked>, OutOfMemory>
+    ensures value { IfOk result (λ found. option_map (λ marked. (at_span tail.now marked.place, marked.important)) found ≡ value_of (cuts_at is_bang tail.now)) }
+    ensures within { IfOk result (λ found. IfSome found (λ marked. IsWithin marked.place tail.now)) }
 {
     let end = end_of_cut(tail, 0, Mark::Bang);
-    let value = trimmed(&tail[..end]);
+    let place = trimmed_span(&tail[..end]);
     if end == tail.len() {
         return Ok(Some(Marked {
-            value,
+            place,
             important: false,
         }));
     }
@@ -108,7 +107,7 @@ fn marked_value<'s, 'a>(
     }
     if is_important(alloc, trimmed(&tail[end + 1..next]))? {
         Ok(Some(Marked {
-            value,
+            place,
             important: true,
         }))
     } else {
@@ -123,35 +122,85 @@ fn may_be_value(custom: bool, value: &[Component]) -> bool
     custom || (!value.is_empty() && !is_block_in(value))
 }
 
+/// A declaration that components spell, with the place of its value among them.
+#[derive(Debug, Drop)]
+pub struct Found<'a> {
+    pub name: Text<'a>,
+    pub value: Span,
+    pub important: bool,
+    pub at: u32,
+}
+
+impl<'a> Found<'a> {
+    /// The same among components of which so many more stand in front.
+    pub fn behind(self, count: usize) -> Found<'a>
+        requires small { count + self.value.to < 2 ^ 64 }
+        requires ordered { self.value.from ≤ self.value.to }
+        ensures { result ≡ behind count self.entry }
+    {
+        let value = Span {
+            from: count + self.value.from,
+            to: count + self.value.to,
+        };
+        Found {
+            name: self.name,
+            value,
+            important: self.important,
+            at: self.at,
+        }
+    }
+}
+
 fn declared<'a>(
     alloc: Global,
     name: &Token<'a>,
     tail: &[Component<'a>],
-) -> Result<Option<Declaration<'a>>, OutOfMemory>
+) -> Result<Option<Found<'a>>, OutOfMemory>
     requires { IsTrue (is_ident_kind name.now.kind) }
-    ensures { IfOk result (λ declaration. declaration ≡ declared name.now (value_of (cuts_at is_bang tail.now))) }
+    ensures found { IfOk result (λ found. option_map (declared_in tail.now) found ≡ declared name.now (value_of (cuts_at is_bang tail.now))) }
+    ensures within { IfOk result (λ found. IfSome found (λ found. IsWithin found.value tail.now)) }
 {
     let Some(marked) = marked_value(alloc, tail)? else {
         return Ok(None);
     };
     let property = name_of(alloc, name)?;
-    if !may_be_value(is_custom(property.as_str()), marked.value) {
+    let value = marked.place;
+    if !may_be_value(is_custom(property.as_str()), &tail[value.from..value.to]) {
         return Ok(None);
     }
-    Ok(Some(Declaration {
+    Ok(Some(Found {
         name: property_name(alloc, property)?,
-        value: copy_all(alloc, marked.value)?,
+        value,
         important: marked.important,
         at: name.at,
     }))
 }
 
-/// The declaration that these components spell, where they spell one.
-pub fn read_declaration<'a>(
+/// The declaration of a name and of what stands behind its colon, with its place among the components that end so.
+fn declared_among<'a>(
     alloc: Global,
     components: &[Component<'a>],
-) -> Result<Option<Declaration<'a>>, OutOfMemory>
-    ensures { IfOk result (λ declaration. declaration ≡ declaration_of components.now) }
+    name: &Token<'a>,
+    tail: &[Component<'a>],
+) -> Result<Option<Found<'a>>, OutOfMemory>
+    requires named { IsTrue (is_ident_kind name.now.kind) }
+    requires last { StandsLast components.now tail.now }
+    ensures found { IfOk result (λ found. option_map (declared_in components.now) found ≡ declared name.now (value_of (cuts_at is_bang tail.now))) }
+    ensures within { IfOk result (λ found. IfSome found (λ found. IsWithin found.value components.now)) }
+{
+    match declared(alloc, name, tail)? {
+        Some(found) => Ok(Some(found.behind(components.len() - tail.len()))),
+        None => Ok(None),
+    }
+}
+
+/// The declaration that these components spell, where they spell one.
+pub fn find_declaration<'a>(
+    alloc: Global,
+    components: &[Component<'a>],
+) -> Result<Option<Found<'a>>, OutOfMemory>
+    ensures found { IfOk result (λ found. option_map (declared_in components.now) found ≡ declaration_of components.now) }
+    ensures within { IfOk result (λ found. IfSome found (λ found. IsWithin found.value components.now)) }
 {
     let [first, rest @ ..] = components else {
         return Ok(None);
@@ -160,7 +209,7 @@ pub fn read_declaration<'a>(
         return Ok(None);
     }
     match after_colon(trimmed_start(rest)) {
-        Some(tail) => declared(alloc, head_of(first), tail),
+        Some(tail) => declared_among(alloc, components, head_of(first), tail),
         None => Ok(None),
     }
 }
@@ -183,8 +232,8 @@ pub fn begins_custom(alloc: Global, components: &[Component]) -> Result<bool, Ou
     let [first, rest @ ..] = components else {
         return Ok(false);
     };
-    if is_ident(first) && after_colon(trimmed_start(rest)).is_some() {
-        names_custom(alloc, head_of(first))
+    if is_ident(first) && names_custom(alloc, head_of(first))? {
+        Ok(after_colon(trimmed_start(rest)).is_some())
     } else {
         Ok(false)
     }

@@ -11,7 +11,6 @@ mod plain_law;
 mod reader;
 mod reading_law;
 mod refusal;
-mod sheet;
 mod sheet_builder;
 mod sheet_laws;
 mod standing_law;
@@ -20,13 +19,16 @@ mod within_law;
 
 pub use cuts::trimmed;
 pub use first_law::{the_first_fault_is_named, the_first_refusal_is_named};
-pub use places_law::{bare_items_say, places_do_not_matter};
+pub use places_law::places_do_not_matter;
 pub use plain_law::sheets_are_plain;
 pub use reader::{RuleFault, read_sheet};
 pub use reading_law::sheets_have_readings_or_refusals;
 pub use refusal::{Cause, Refusal, Sought};
-pub use sheet::{Declaration, Item, LayerName, Sheet, Style};
 pub use sheet_builder::SheetBuilder;
 pub use sheet_laws::{sheets_are_printable, sheets_are_read_again};
+pub use sheet_types::{
+    Declaration, Group, GroupCondition, Item, LayerName, Passed, PassedKind, Sheet, Style,
+    bare_items_say, passed_rules_say_their_texts,
+};
 pub use standing_law::values_stand;
 pub use within_law::refusals_stand_within;

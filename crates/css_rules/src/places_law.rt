@@ -1,9 +1,6 @@
-//! Laws about the definitions of this crate, each the contract of a function that does nothing.
-ghost use Rattle.css_rules.specs.BareItems.{bare_items, bare_sheet, filled_items};
-ghost use Rattle.css_rules.specs.Contexts.{Context};
+//! A law about the definitions of this crate, the contract of a function that does nothing.
+ghost use Rattle.sheet_types.specs.BareItems.{bare_sheet};
 ghost use Rattle.css_rules.specs.Sheets.{sheet_of};
-ghost use Rattle.css_rules.specs.Statements.{say_all};
-ghost use Rattle.css_rules.specs.declared.sheet.Item.{Item};
 ghost use Rattle.css_tokens.specs.Trees.{all_formed, words_all};
 ghost use Rattle.css_tokens.specs.declared.component.Component.{Component};
 ghost use Rattle.std.specs.Option.{option_map};
@@ -17,9 +14,3 @@ pub fn places_do_not_matter()
     css_tokens::one_pairing();
     selector_tree::places_are_not_read();
 }
-
-/// Items say the same that are the same, places aside, or that are so but for rules that declare nothing.
-pub fn bare_items_say()
-    ensures same { (a b : List Item) (c : Context) → bare_items a ≡ bare_items b → say_all a c ≡ say_all b c }
-    ensures filled { (a b : List Item) (c : Context) → bare_items a ≡ filled_items (bare_items b) → say_all a c ≡ say_all b c }
-{}

@@ -1,7 +1,7 @@
 //! A law about the definitions of this crate, the contract of a function that does nothing.
 ghost use Rattle.css_rules.specs.PlainRules.{IsPlainRule};
 ghost use Rattle.css_rules.specs.Sheets.{sheet_of};
-ghost use Rattle.css_rules.specs.declared.sheet.Sheet.{Sheet};
+ghost use Rattle.sheet_types.specs.declared.sheet.Sheet.{Sheet};
 ghost use Rattle.css_tokens.specs.declared.component.Component.{Component};
 ghost use Rattle.std.specs.List.{AllByRecursion};
 ghost use Rattle.std.specs.Prelude.{◌≡◌, List, Some};

@@ -1,22 +1,28 @@
 //! Sheets of plain style rules, read from component values.
 
-ghost use Rattle.std.specs.Prelude.{◌≡◌, ◌++◌, ◌∷◌, [], IfOk, IfErr, OnOk, OnErr, IsNone, Option, Some, None};
-ghost use Rattle.std.specs.Option.{option_copied, option_to_list};
+ghost use Rattle.std.specs.Prelude.{◌≡◌, ◌≤◌, ◌+◌, ◌<◌, ◌^◌, ◌||◌, ◌++◌, ◌∷◌, [], ℕ, IfOk, IfErr, IfSome, OnOk, OnErr, IsNone, Option, Some, None, drop, length, slice_get, slice_range};
+ghost use Rattle.std.specs.Option.{option_copied, option_map, option_to_list};
 ghost use Rattle.css_rules.specs.Components.{inside, head};
 ghost use Rattle.css_rules.specs.Refusals.{first_refusal, holds, is_unbuilt_property, sought_for};
-ghost use Rattle.css_rules.specs.Sheets.{block_refusals, declaration_refusals, declarations_of, first_place, is_rule, item_of, item_refusals, mark_place, plain_item, plain_refusals, prelude_of, prelude_refusals, rule_of, rule_refusals, rules_of, run_of, sheet_of, sheet_refusals, style_of, style_refusals, IsNamed, IsLeast};
+ghost use Rattle.css_rules.specs.Sheets.{begins_at_rule, block_refusals, declaration_refusals, declarations_of, ends_in_braces, ends_item, first_place, is_rule, item_of, item_refusals, mark_place, plain_item, plain_refusals, prelude_of, prelude_refusals, rule_of, rule_refusals, rules_of, sheet_of, sheet_refusals, style_of, style_refusals, IsNamed, IsLeast};
+ghost use Rattle.sheet_types.specs.Runs.{run_of};
 ghost use Rattle.css_rules.specs.Private.Faults.{fault_of};
+ghost use Rattle.css_rules.specs.Private.Marks.{EndsCut};
+ghost use Rattle.css_rules.specs.Private.Spans.{IsWithin, at_span, behind, declared_in};
 
-use crate::cuts::{end_of_cut, is_semicolon, item_mark, mark_at, rule_mark, trimmed};
-use crate::declaration::{is_custom, read_declaration};
+use crate::cuts::{
+    Span, end_of_cut, is_semicolon, item_mark, mark_at, rule_mark, trimmed, trimmed_span,
+};
+use crate::declaration::{Found, find_declaration, is_custom};
 use crate::first_law::the_first_refusal_is_named;
-use crate::parts::{begins_at_rule, is_braces, place_of};
+use crate::parts::{begins_at_rule, head_of, is_braces, is_token, place_of};
 use crate::refusal::{Cause, Refusal, Sought, sooner_of, sought_in};
-use crate::sheet::{Declaration, Item, Sheet, Style};
 use crate::waiting::waiting_in;
-use css_tokens::{Component, Kind, List, OutOfMemory};
+use css_tokens::{Block, Component, Kind, List, OutOfMemory};
 use selector_tree::{Selector, SelectorFault, read_list};
+use sheet_types::{Declaration, Item, Sheet, Style};
 use std::alloc::Global;
+use std::mem;
 
 /// Why a sheet is not read, with the place in bytes of the source.
 #[derive(Debug, Drop, thiserror::Error)]
@@ -71,8 +77,7 @@ fn is_unbuilt_property(name: &str) -> bool
             || (bytes.starts_with(b"inset")
                 || (bytes.starts_with(b"border-start-")
                     || (bytes.starts_with(b"border-end-")
-                        || (name == "float"
-                            || (name == "clear" || (name == "resize" || name == "composes")))))))
+                        || matches!(bytes, b"float" | b"clear" | b"resize" | b"composes")))))
 }
 
 /// What is not built yet in the value of a property of this name.
@@ -90,20 +95,26 @@ fn sought_for(name: &str) -> Sought
 fn declaration_refusal(
     alloc: Global,
     at: u32,
-    declaration: &Option<Declaration>,
+    item: &[Component],
+    found: &Option<Found>,
 ) -> Result<Option<Refusal>, OutOfMemory>
-    ensures { IfOk result (λ refusal. refusal ≡ first_refusal (declaration_refusals at declaration.now)) }
+    requires { IfSome found.now (λ found. IsWithin found.value item.now) }
+    ensures { IfOk result (λ refusal. refusal ≡ first_refusal (declaration_refusals at (option_map (declared_in item.now) found.now))) }
 {
-    let Some(declaration) = declaration else {
+    let Some(found) = found else {
         return Ok(Some(Refusal::syntax(at)));
     };
-    let name = declaration.name.as_str();
+    let name = found.name.as_str();
     let property = if is_unbuilt_property(name) {
         Some(Refusal::unbuilt(at))
     } else {
         None
     };
-    let value = sought_in(alloc, declaration.value.as_slice(), sought_for(name))?;
+    let value = sought_in(
+        alloc,
+        &item[found.value.from..found.value.to],
+        sought_for(name),
+    )?;
     Ok(sooner_of(property, value))
 }
 
@@ -111,9 +122,10 @@ fn declaration_refusal(
 fn read_plain<'a>(
     alloc: Global,
     item: &[Component<'a>],
-) -> Result<Judged<Option<Declaration<'a>>>, OutOfMemory>
+) -> Result<Judged<Option<Found<'a>>>, OutOfMemory>
     ensures refusal { IfOk result (λ read. read.refusal ≡ first_refusal (plain_refusals item.now)) }
-    ensures value { IfOk result (λ read. read.refusal ≡ None → plain_item item.now ≡ Some (option_to_list read.value)) }
+    ensures value { IfOk result (λ read. read.refusal ≡ None → plain_item item.now ≡ Some (option_to_list (option_map (declared_in item.now) read.value))) }
+    ensures within { IfOk result (λ read. IfSome read.value (λ found. IsWithin found.value item.now)) }
 {
     let [first, ..] = item else {
         return Ok(Judged {
@@ -121,8 +133,8 @@ fn read_plain<'a>(
             refusal: None,
         });
     };
-    let value = read_declaration(alloc, item)?;
-    let refusal = declaration_refusal(alloc, place_of(first), &value)?;
+    let value = find_declaration(alloc, item)?;
+    let refusal = declaration_refusal(alloc, place_of(first), item, &value)?;
     Ok(Judged { value, refusal })
 }
 
@@ -137,10 +149,10 @@ fn mark_place(mark: Option<&Component>) -> u32
 }
 
 /// Whether an item of a style rule's block is an at-rule or a nested rule.
-fn is_rule(front: &[Component], mark: Option<&Component>) -> bool
-    ensures { result ≡ is_rule (record { front = front.now; mark = option_copied mark.entry }) }
+fn is_rule(item: &[Component], mark: Option<&Component>) -> bool
+    ensures { result ≡ (begins_at_rule item.now || ends_in_braces (option_copied mark.entry)) }
 {
-    begins_at_rule(trimmed(front))
+    begins_at_rule(item)
         || match mark {
             Some(mark) => is_braces(mark),
             None => false,
@@ -152,19 +164,24 @@ fn read_item<'a>(
     alloc: Global,
     front: &[Component<'a>],
     mark: Option<&Component<'a>>,
-) -> Result<Judged<Option<Declaration<'a>>>, OutOfMemory>
+) -> Result<Judged<Option<Found<'a>>>, OutOfMemory>
     ensures refusal { IfOk result (λ read. read.refusal ≡ first_refusal (item_refusals (record { front = front.now; mark = option_copied mark.entry }))) }
-    ensures value { IfOk result (λ read. read.refusal ≡ None → item_of (record { front = front.now; mark = option_copied mark.entry }) ≡ Some (option_to_list read.value)) }
+    ensures value { IfOk result (λ read. read.refusal ≡ None → item_of (record { front = front.now; mark = option_copied mark.entry }) ≡ Some (option_to_list (option_map (declared_in front.now) read.value))) }
+    ensures within { IfOk result (λ read. IfSome read.value (λ found. IsWithin found.value front.now)) }
 {
-    let item = trimmed(front);
-    if is_rule(front, mark) {
-        Ok(Judged {
+    let place = trimmed_span(front);
+    let item = &front[place.from..place.to];
+    if is_rule(item, mark) {
+        return Ok(Judged {
             value: None,
             refusal: Some(Refusal::unbuilt(first_place(item, mark_place(mark)))),
-        })
-    } else {
-        read_plain(alloc, item)
+        });
     }
+    let Judged { value, refusal } = read_plain(alloc, item)?;
+    Ok(Judged {
+        value: behind(place.from, value),
+        refusal,
+    })
 }
 
 /// Adds what there is to a list. A refusal changes nothing.
@@ -190,31 +207,145 @@ fn count_of_items(block: &[Component]) -> usize {
     semicolons.saturating_add(1).min(MOST_ROOM)
 }
 
-/// The declarations of a style rule's block.
-fn read_block<'a>(
+/// Takes a component out of the list that holds it. Its first token is left in its place.
+fn take_one<'a>(component: &mut Component<'a>) -> Component<'a>
+    ensures { result ≡ component.old }
+{
+    let first = Component::Single(head_of(component).copy());
+    if is_token(component) {
+        first
+    } else {
+        mem::replace(component, first)
+    }
+}
+
+/// Takes the components between two places out of the list that holds them.
+fn take_all<'a>(
+    alloc: Global,
+    components: &mut [Component<'a>],
+    place: Span,
+) -> Result<List<Component<'a>>, OutOfMemory>
+    requires { IsWithin place components.old }
+    ensures taken { IfOk result (λ taken. taken ≡ at_span components.old place) }
+    ensures left { OnOk result (drop place.to components.new ≡ drop place.to components.old) }
+    ensures length { OnOk result (length components.new ≡ length components.old) }
+{
+    let mut taken = List::with_capacity(alloc, place.to - place.from)?;
+    let mut at = place.from;
+    while at < place.to {
+        taken.push(take_one(&mut components[at]))?;
+        at += 1;
+    }
+    Ok(taken)
+}
+
+/// The same among components of which so many more stand in front.
+fn behind<'a>(count: usize, found: Option<Found<'a>>) -> Option<Found<'a>>
+    requires { IfSome found (λ found. (found.value.from ≤ found.value.to) × (count + found.value.to < 2 ^ 64)) }
+    ensures { result ≡ option_map (behind count) found.entry }
+{
+    match found {
+        Some(found) => Some(found.behind(count)),
+        None => None,
+    }
+}
+
+/// Adds what declaration there is to a list, its value taken out of the components among which it stands.
+fn push_found<'a>(
+    alloc: Global,
+    components: &mut [Component<'a>],
+    found: Option<Found<'a>>,
+    declarations: &mut List<Declaration<'a>>,
+) -> Result<(), OutOfMemory>
+    requires { IfSome found (λ found. IsWithin found.value components.old) }
+    ensures pushed { OnOk result (declarations.new ≡ declarations.old ++ option_to_list (option_map (declared_in components.old) found.entry)) }
+    ensures left { OnOk result ((end : ℕ) → IfSome found.entry (λ found. found.value.to ≤ end) → drop end components.new ≡ drop end components.old) }
+    ensures length { OnOk result (length components.new ≡ length components.old) }
+{
+    let Some(found) = found else {
+        return Ok(());
+    };
+    let Found {
+        name,
+        value,
+        important,
+        at,
+    } = found;
+    declarations.push(Declaration {
+        name,
+        value: take_all(alloc, components, value)?,
+        important,
+        at,
+    })
+}
+
+/// What stands in a block from a place on up to a mark or the end, and where that is. A declaration has its place in the block.
+#[derive(Drop)]
+struct Next<'a> {
+    value: Option<Found<'a>>,
+    refusal: Option<Refusal>,
+    end: usize,
+}
+
+/// The item of a block that begins at a place.
+fn read_next<'a>(
     alloc: Global,
     block: &[Component<'a>],
+    from: usize,
+) -> Result<Next<'a>, OutOfMemory>
+    requires { from ≤ length block.now }
+    ensures after { IfOk result (λ next. from ≤ next.end) }
+    ensures within { IfOk result (λ next. next.end ≤ length block.now) }
+    ensures ends { IfOk result (λ next. EndsCut ends_item block.now from next.end) }
+    ensures refusal { IfOk result (λ next. next.refusal ≡ first_refusal (item_refusals (record { front = slice_range block.now from next.end; mark = slice_get block.now next.end }))) }
+    ensures value { IfOk result (λ next. next.refusal ≡ None → item_of (record { front = slice_range block.now from next.end; mark = slice_get block.now next.end }) ≡ Some (option_to_list (option_map (declared_in block.now) next.value))) }
+    ensures found { IfOk result (λ next. IfSome next.value (λ found. (found.value.from ≤ found.value.to) × (found.value.to ≤ next.end))) }
+{
+    let mark = item_mark(alloc, &block[from..])?;
+    let end = end_of_cut(block, from, mark);
+    let item = read_item(alloc, &block[from..end], mark_at(block, end))?;
+    let Judged { value, refusal } = item;
+    Ok(Next {
+        value: behind(from, value),
+        refusal,
+        end,
+    })
+}
+
+/// The declarations of a style rule's block. Their values are taken out of it.
+fn read_items<'a>(
+    alloc: Global,
+    block: &mut [Component<'a>],
 ) -> Result<Judged<List<Declaration<'a>>>, OutOfMemory>
-    ensures refusal { IfOk result (λ read. read.refusal ≡ first_refusal (block_refusals block.now)) }
-    ensures value { IfOk result (λ read. read.refusal ≡ None → declarations_of block.now ≡ Some read.value) }
+    ensures refusal { IfOk result (λ read. read.refusal ≡ first_refusal (block_refusals block.old)) }
+    ensures value { IfOk result (λ read. read.refusal ≡ None → declarations_of block.old ≡ Some read.value) }
 {
     let mut declarations = List::with_capacity(alloc, count_of_items(block))?;
     let mut refusal = None;
     let mut from = 0;
     while from <= block.len() {
-        let mark = item_mark(alloc, &block[from..])?;
-        let end = end_of_cut(block, from, mark);
-        let item = read_item(alloc, &block[from..end], mark_at(block, end))?;
-        refusal = sooner_of(refusal, item.refusal);
-        let Judged { value, refusal: _ } = item;
-        push_some(&mut declarations, value)?;
-        from = end + 1;
+        let next = read_next(alloc, block, from)?;
+        refusal = sooner_of(refusal, next.refusal);
+        from = next.end + 1;
+        push_found(alloc, block, next.value, &mut declarations)?;
     }
     declarations.shrink_to_fit();
     Ok(Judged {
         value: declarations,
         refusal,
     })
+}
+
+/// The declarations of a style rule's block.
+fn read_block<'a>(
+    alloc: Global,
+    block: List<Component<'a>>,
+) -> Result<Judged<List<Declaration<'a>>>, OutOfMemory>
+    ensures refusal { IfOk result (λ read. read.refusal ≡ first_refusal (block_refusals block.entry)) }
+    ensures value { IfOk result (λ read. read.refusal ≡ None → declarations_of block.entry ≡ Some read.value) }
+{
+    let mut components = block.into_vec();
+    read_items(alloc, components.as_mut_slice())
 }
 
 /// A run of declarations as the items of a block: none where there is no declaration.
@@ -256,12 +387,19 @@ fn read_prelude<'a>(
 }
 
 /// What stands in a block.
-fn inside<'s, 'a>(component: &'s Component<'a>) -> &'s [Component<'a>]
-    ensures { result.now ≡ inside component.now }
+fn into_inside<'a>(alloc: Global, component: Component<'a>) -> List<Component<'a>>
+    ensures { result ≡ inside component.entry }
 {
     match component {
-        Component::Single(_) => &[],
-        Component::Block(block) => block.get().items.as_slice(),
+        Component::Single(_) => List::new(alloc),
+        Component::Block(block) => {
+            let Block {
+                opening: _,
+                items,
+                close: _,
+            } = block.into_inner();
+            items
+        }
     }
 }
 
@@ -279,14 +417,14 @@ fn first_place(components: &[Component], otherwise: u32) -> u32
 fn read_style<'a>(
     alloc: Global,
     prelude: &[Component<'a>],
-    block: &Component<'a>,
+    block: Component<'a>,
 ) -> Result<Judged<Option<Item<'a>>>, OutOfMemory>
-    ensures refusal { IfOk result (λ read. read.refusal ≡ first_refusal (style_refusals prelude.now (Some block.now))) }
-    ensures value { IfOk result (λ read. read.refusal ≡ None → style_of prelude.now (Some block.now) ≡ Some (option_to_list read.value)) }
+    ensures refusal { IfOk result (λ read. read.refusal ≡ first_refusal (style_refusals prelude.now (Some block.entry))) }
+    ensures value { IfOk result (λ read. read.refusal ≡ None → style_of prelude.now (Some block.entry) ≡ Some (option_to_list read.value)) }
 {
-    let opening = place_of(block);
+    let opening = place_of(&block);
     let selectors = read_prelude(alloc, prelude, opening)?;
-    let declarations = read_block(alloc, inside(block))?;
+    let declarations = read_block(alloc, into_inside(alloc, block))?;
     let refusal = sooner_of(selectors.refusal, declarations.refusal);
     let Judged {
         value: selectors,
@@ -310,10 +448,10 @@ fn read_style<'a>(
 pub fn read_rule<'a>(
     alloc: Global,
     front: &[Component<'a>],
-    mark: Option<&Component<'a>>,
+    mark: Option<Component<'a>>,
 ) -> Result<Judged<Option<Item<'a>>>, OutOfMemory>
-    ensures refusal { IfOk result (λ read. read.refusal ≡ first_refusal (rule_refusals (record { front = front.now; mark = option_copied mark.entry }))) }
-    ensures value { IfOk result (λ read. read.refusal ≡ None → rule_of (record { front = front.now; mark = option_copied mark.entry }) ≡ Some (option_to_list read.value)) }
+    ensures refusal { IfOk result (λ read. read.refusal ≡ first_refusal (rule_refusals (record { front = front.now; mark = mark.entry }))) }
+    ensures value { IfOk result (λ read. read.refusal ≡ None → rule_of (record { front = front.now; mark = mark.entry }) ≡ Some (option_to_list read.value)) }
 {
     let rule = trimmed(front);
     if begins_at_rule(rule) {
@@ -364,6 +502,19 @@ pub fn fault_of(refusal: Refusal) -> RuleFault
     }
 }
 
+/// The same component again, where there is one.
+fn copy_of<'a>(
+    alloc: Global,
+    mark: Option<&Component<'a>>,
+) -> Result<Option<Component<'a>>, OutOfMemory>
+    ensures { IfOk result (λ copy. copy ≡ option_copied mark.entry) }
+{
+    match mark {
+        Some(mark) => Ok(Some(mark.copy(alloc)?)),
+        None => Ok(None),
+    }
+}
+
 /// The rules of a sheet.
 fn read_rules<'a>(
     alloc: Global,
@@ -377,7 +528,8 @@ fn read_rules<'a>(
     let mut from = 0;
     while from <= text.len() {
         let end = end_of_cut(text, from, rule_mark(&text[from..]));
-        let rule = read_rule(alloc, &text[from..end], mark_at(text, end))?;
+        let mark = copy_of(alloc, mark_at(text, end))?;
+        let rule = read_rule(alloc, &text[from..end], mark)?;
         refusal = sooner_of(refusal, rule.refusal);
         let Judged { value, refusal: _ } = rule;
         push_some(&mut items, value)?;

@@ -15,8 +15,8 @@ use crate::first_law::the_first_refusal_is_named;
 use crate::parts::{is_at_keyword, is_braces, is_gap};
 use crate::reader::{Judged, RuleFault, fault_of, push_some, read_rule};
 use crate::refusal::{Refusal, sooner_of};
-use crate::sheet::{Item, Sheet};
 use css_tokens::{Component, List, OutOfMemory};
+use sheet_types::{Item, Sheet};
 use std::alloc::Global;
 
 /// How a rule begins, as far as it has come.
@@ -96,7 +96,7 @@ impl<'a> SheetBuilder<'a> {
         ensures err { OnErr result (self.new ≡ self.old) }
     {
         if self.start.is_ended_by(&component) {
-            return self.end_rule(Some(&component));
+            return self.end_rule(Some(component));
         }
         let start = self.start.with(&component);
         self.current.push(component)?;
@@ -105,8 +105,8 @@ impl<'a> SheetBuilder<'a> {
     }
 
     /// Reads the rule that ends at a mark or at the end, and begins the next one. A refusal of memory changes nothing.
-    fn end_rule(&mut self, mark: Option<&Component<'a>>) -> Result<(), OutOfMemory>
-        ensures read { OnOk result ((rules : the_list Cut) → HasRead self.old rules → HasRead self.new (rules ++ record { front = self.old.current; mark = option_copied mark.entry } ∷ [])) }
+    fn end_rule(&mut self, mark: Option<Component<'a>>) -> Result<(), OutOfMemory>
+        ensures read { OnOk result ((rules : the_list Cut) → HasRead self.old rules → HasRead self.new (rules ++ record { front = self.old.current; mark = mark.entry } ∷ [])) }
         ensures current { OnOk result (self.new.current ≡ []) }
         ensures start { OnOk result (self.new.start ≡ Nothing) }
         ensures err { OnErr result (self.new ≡ self.old) }

@@ -1,11 +1,11 @@
-ghost use Rattle.css_rules.specs.BareItems.{bare_items, bare_sheet, filled_items};
+ghost use Rattle.sheet_types.specs.BareItems.{bare_items, bare_sheet, filled_items};
 ghost use Rattle.css_rules.specs.Printable.{ArePrintable, all_whole};
-ghost use Rattle.css_rules.specs.SheetAgain.{items_again};
-ghost use Rattle.css_rules.specs.SheetTexts.{items_text};
+ghost use Rattle.sheet_types.specs.SheetAgain.{items_again};
+ghost use Rattle.sheet_types.specs.SheetTexts.{items_text};
 ghost use Rattle.css_rules.specs.Sheets.{sheet_of};
-ghost use Rattle.css_rules.specs.Standing.{AllStand};
-ghost use Rattle.css_rules.specs.declared.sheet.Item.{Item};
-ghost use Rattle.css_rules.specs.declared.sheet.Sheet.{Sheet};
+ghost use Rattle.sheet_types.specs.Standing.{AllStand};
+ghost use Rattle.sheet_types.specs.declared.sheet.Item.{Item};
+ghost use Rattle.sheet_types.specs.declared.sheet.Sheet.{Sheet};
 ghost use Rattle.css_tokens.specs.Tokens.{Reads};
 ghost use Rattle.css_tokens.specs.Trees.{all_formed, words_all};
 ghost use Rattle.css_tokens.specs.declared.component.Component.{Component};

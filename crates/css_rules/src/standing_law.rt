@@ -1,6 +1,6 @@
 ghost use Rattle.css_rules.specs.Sheets.{sheet_of};
-ghost use Rattle.css_rules.specs.Standing.{AllStand};
-ghost use Rattle.css_rules.specs.declared.sheet.Sheet.{Sheet};
+ghost use Rattle.sheet_types.specs.Standing.{AllStand};
+ghost use Rattle.sheet_types.specs.declared.sheet.Sheet.{Sheet};
 ghost use Rattle.css_tokens.specs.Tokens.{Reads};
 ghost use Rattle.css_tokens.specs.Trees.{all_formed, words_all};
 ghost use Rattle.css_tokens.specs.declared.component.Component.{Component};

@@ -3,7 +3,7 @@ use Rattle.std.proofs.Common.{◌≡◌, ℕ, List, Result, Err, IfErr, inl, sub
 use Rattle.css_tokens.specs.Components as texts
 use Rattle.css_tokens.specs.declared.pairing.ComponentFault.{ComponentFault}
 use Rattle.css_tokens.specs.declared.pairing.ComponentFault.TheVariants as components
-use Rattle.css_rules.specs.declared.sheet.Sheet.{Sheet}
+use Rattle.sheet_types.specs.declared.sheet.Sheet.{Sheet}
 use Rattle.sheet_reader.specs.Private.Faults.{of_components}
 use Rattle.sheet_reader.specs.Texts.{IsFirstFault}
 use Rattle.sheet_reader.specs.declared.fault.SheetFault.{SheetFault}

@@ -4,14 +4,15 @@
 
 ghost use Rattle.std.specs.Prelude.{◌≡◌, List, [], ◌∷◌, true, false, Some, None, codes};
 ghost use Rattle.std.specs.Option.{option_map};
-ghost use Rattle.css_rules.specs.declared.sheet.Item.{Style, Plain};
-ghost use Rattle.css_rules.specs.BareItems.{bare_sheet, filled_items};
+ghost use Rattle.sheet_types.specs.declared.sheet.Item.{Style, Plain};
+ghost use Rattle.sheet_types.specs.BareItems.{bare_sheet, filled_items};
 ghost use Rattle.css_rules.specs.Declarations.{declaration_of};
 ghost use Rattle.css_rules.specs.Refusals.{first_refusal, syntax, unbuilt};
 ghost use Rattle.css_rules.specs.Printable.{all_whole};
 ghost use Rattle.css_rules.specs.Sheets.{sheet_of, sheet_refusals};
-ghost use Rattle.css_rules.specs.SheetTexts.{sheet_text};
-ghost use Rattle.css_rules.specs.Samples.{number, at_keyword, url, string, dot, semicolon, braces, type_at, unmarked, marked, plain, rule, empty_rule};
+ghost use Rattle.sheet_types.specs.SheetTexts.{sheet_text};
+ghost use Rattle.css_rules.specs.Samples.{number, at_keyword, url, string, dot, semicolon, braces};
+ghost use Rattle.sheet_types.specs.Samples.{type_at, unmarked, marked, plain, rule, empty_rule};
 ghost use Rattle.selector_types.specs.Samples.{source, laid, ident, delim, space, comment, comma, colon, brackets, call, class, typed, one, only};
 
 /// What a declaration says: its name in lower case, but for a custom property, and its value without white space at both ends.
@@ -75,9 +76,6 @@ pub fn items_of_sheets()
     ensures nothing_declared { option_map (λ sheet. filled_items sheet.items) (sheet_of (source (ident "p" ∷ braces (semicolon ∷ comment ∷ []) ∷ []))) ≡ Some [] }
     ensures something_declared { option_map (λ sheet. filled_items sheet.items) (sheet_of (source (ident "p" ∷ braces [] ∷ ident "a" ∷ braces (ident "b" ∷ colon ∷ ident "c" ∷ []) ∷ []))) ≡ Some (Style (record { selectors = type_at 3 "a" ∷ []; items = Plain (unmarked 5 "b" (laid 7 (ident "c" ∷ [])) ∷ []) ∷ []; at = 3 }) ∷ []) }
     ensures two_declarations { option_map bare_sheet (sheet_of (source (ident "a" ∷ braces (ident "b" ∷ colon ∷ ident "c" ∷ semicolon ∷ ident "d" ∷ colon ∷ ident "e" ∷ []) ∷ []))) ≡ Some (rule (one (typed "a" []) ∷ []) (plain "b" "c" ∷ plain "d" "e" ∷ []) ∷ []) }
-    ensures empty_rule_within { filled_items (Style (record { selectors = type_at 3 "a" ∷ []; items = empty_rule (type_at 0 "p" ∷ []) ∷ []; at = 3 }) ∷ []) ≡ [] }
-    ensures no_run { filled_items (Plain ([]) ∷ []) ≡ [] }
-    ensures rules_within { filled_items (Style (record { selectors = type_at 3 "a" ∷ []; items = empty_rule (type_at 0 "p" ∷ []) ∷ rule (type_at 0 "q" ∷ []) (plain "b" "c" ∷ []) ∷ []; at = 3 }) ∷ []) ≡ Style (record { selectors = type_at 3 "a" ∷ []; items = rule (type_at 0 "q" ∷ []) (plain "b" "c" ∷ []) ∷ []; at = 3 }) ∷ [] }
     ensures two_rules { option_map bare_sheet (sheet_of (source (ident "a" ∷ braces (ident "b" ∷ colon ∷ ident "c" ∷ []) ∷ ident "d" ∷ braces (ident "e" ∷ colon ∷ ident "f" ∷ []) ∷ []))) ≡ Some (rule (one (typed "a" []) ∷ []) (plain "b" "c" ∷ []) ∷ rule (one (typed "d" []) ∷ []) (plain "e" "f" ∷ []) ∷ []) }
 {}
 

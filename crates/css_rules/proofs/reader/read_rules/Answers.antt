@@ -21,13 +21,13 @@ loop-from-preserved c =
     let cut : Cut = record { front = slice_range text from end; mark = slice_get text end } in (
       omega arith,
       refusal-turn rule_refusals (cuts_left ends_rule text from) (cuts_left ends_rule text (end + 1)) cut c.loop-from.refusal c.in_ok-rule.rule.refusal c.sooner_of-refusal.result _
-          first (c.in_ok-rule.ensures.refusal ∙ ap (λ mark. first_refusal (rule_refusals (record { front = slice_range text from end; mark = mark }))) c.mark_at.ensures)
+          first (c.in_ok-rule.ensures.refusal ∙ ap (λ mark. first_refusal (rule_refusals (record { front = slice_range text from end; mark = mark }))) (c.in_ok-mark.ensures ∙ c.mark_at.ensures))
           c.sooner_of-refusal.ensures c.loop-from.invariant.1,
       λ none.
           let both = sym c.sooner_of-refusal.ensures ∙ none in
           items-turn rule_of (cuts_left ends_rule text from) (cuts_left ends_rule text (end + 1)) cut c.loop-from.items (option_to_list c.in_ok-rule.rule.value) c.push_some.new.list _
           first
-          (ap (λ mark. rule_of (record { front = slice_range text from end; mark = mark })) (sym c.mark_at.ensures)
+          (ap (λ mark. rule_of (record { front = slice_range text from end; mark = mark })) (sym (c.in_ok-mark.ensures ∙ c.mark_at.ensures))
           ∙ c.in_ok-rule.ensures.value (sooner_of-none_right c.loop-from.refusal c.in_ok-rule.rule.refusal both))
           c.in_ok-push_some.ensures.ok
           (c.loop-from.invariant.2 (sooner_of-none_left c.loop-from.refusal c.in_ok-rule.rule.refusal both)),

@@ -1,0 +1,5 @@
+pub mod PlacesTrees
+pub mod SaidItems
+pub mod ItemShapes
+pub mod Computing
+pub mod PassedTexts

@@ -1,0 +1,14 @@
+pub mod ItemFold
+pub mod ItemInduction
+pub mod Erased
+pub mod PassedRules
+pub mod Conditions
+pub mod Contexts
+pub mod Statements
+pub mod Runs
+pub mod BareItems
+pub mod Leaves
+pub mod SheetTexts
+pub mod SheetAgain
+pub mod Standing
+pub mod Samples
