@@ -1,9 +1,29 @@
 //! Worked examples of the definitions of this crate, each the contract of a function that does nothing.
 
+ghost use Rattle.css_places.specs.Lines.{column_of, line_of};
 ghost use Rattle.css_places.specs.Rebasing.{rebased};
 ghost use Rattle.css_places.specs.Resolving.{resolution};
 ghost use Rattle.css_places.specs.declared.fault.PathFault.TheVariants.{Remote, Absolute, AboveRoot, Empty};
-ghost use Rattle.std.specs.Prelude.{◌≡◌, [], Ok, Err, codes};
+ghost use Rattle.std.specs.Prelude.{◌≡◌, [], ◌∷◌, Ok, Err, codes};
+
+/// Lines and columns begin at 1, and only LF begins a line.
+pub fn lines_and_columns()
+    ensures first_line { line_of (codes "a\nbc") 0 ≡ 1 }
+    ensures first_column { column_of (codes "a\nbc") 0 ≡ 1 }
+    ensures before_the_newline { line_of (codes "a\nbc") 1 ≡ 1 }
+    ensures column_of_the_newline { column_of (codes "a\nbc") 1 ≡ 2 }
+    ensures behind_the_newline { line_of (codes "a\nbc") 2 ≡ 2 }
+    ensures column_behind_the_newline { column_of (codes "a\nbc") 2 ≡ 1 }
+    ensures end { line_of (codes "a\nbc") 4 ≡ 2 }
+    ensures column_of_the_end { column_of (codes "a\nbc") 4 ≡ 3 }
+    ensures carriage_return { line_of (codes "a\r\nb") 3 ≡ 2 }
+    ensures form_feed { line_of (12 ∷ 12 ∷ []) 2 ≡ 1 }
+    ensures column_behind_a_carriage_return { column_of (codes "a\r\nb") 2 ≡ 3 }
+    ensures column_behind_a_form_feed { column_of (12 ∷ 12 ∷ []) 2 ≡ 3 }
+    ensures third_line { line_of (codes "a\nbc\nd") 6 ≡ 3 }
+    ensures column_of_the_third_line { column_of (codes "a\nbc\nd") 6 ≡ 2 }
+    ensures column_in_bytes { column_of (195 ∷ 169 ∷ []) 2 ≡ 3 }
+{}
 
 /// Where targets lead.
 pub fn targets()
