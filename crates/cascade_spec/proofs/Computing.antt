@@ -8,18 +8,19 @@ use Rattle.css_tokens.specs.Trees.{closing, pieces_all, pieces_of, pieces_of-Sin
 use Rattle.selector_types.specs.declared.selector.Selector.{Selector}
 use Rattle.selector_types.specs.Erased.{erased}
 use Rattle.selector_tree.specs.Signs.{mark_of, mark_of-Single, mark_of-Block, block_mark}
-use Rattle.css_rules.specs.declared.sheet.Item.{Item}
+use Rattle.sheet_types.specs.declared.sheet.Item.{Item}
 use Rattle.css_tokens.specs.ValueAgain.{head_kind-Single, parted_within-Single, shortened-Single, takes_last-Single}
-use Rattle.css_rules.specs.Erased.{erased-Single}
-use Rattle.css_rules.specs.Contexts.{Context, under_list}
-use Rattle.css_rules.specs.Statements.{Statement, says, says-Plain, says-Style}
+use Rattle.sheet_types.specs.Erased.{erased-Single}
+use Rattle.sheet_types.specs.Contexts.{Context, under_list}
+use Rattle.sheet_types.specs.Statements.{Statement, says, says-Plain, says-Style, says-Passed, says-Other}
+use Rattle.sheet_types.proofs.Computing.{group-says}
 use Rattle.std.specs.Prelude.{Option}
 use Rattle.selector_types.specs.declared.selector.Combinator.{Combinator}
 use Rattle.selector_types.specs.declared.selector.TypeName.{TypeName}
 use Rattle.selector_types.specs.declared.selector.Link.TheVariants.{outs-Linked}
 use Rattle.selector_types.specs.SelectorFold.{Steps, made_part, made_link, folded_compound, folded_selector, folded-Class, folded-Id, folded-Attribute, folded-Pseudo, folded-Not, folded-Is, folded-Where, folded-Parent, folded-Local, folded-Global, folded-Foreign, folded-Compound, folded-Selector}
 use Rattle.css_tokens.specs.declared.component.Component as component
-use Rattle.css_rules.specs.declared.sheet.Item as item
+use Rattle.sheet_types.specs.declared.sheet.Item as item
 use Rattle.selector_types.specs.declared.selector.Tail as tail
 use Rattle.selector_types.specs.declared.selector.Compound as compound
 use Rattle.selector_types.specs.declared.selector.Link as link
@@ -54,4 +55,4 @@ pub made-selector : {M K S : Type 0} (steps : Steps M K S) (lead : Option Combin
 made-selector steps lead first rest at = folded-Selector steps (record { lead = lead; first = first; rest = rest; at = at })
 
 -- the equations by which the worked examples compute
-pub ruleset computing = (outs-Single, block-out, pieces_of-Single, block-pieces, says-Plain, rule-says, shortened-Single, parted_within-Single, takes_last-Single, erased-Single, head_kind-Single, mark_of-Single, block-mark, outs-Linked, folded-Class, folded-Id, folded-Attribute, folded-Pseudo, folded-Not, folded-Is, folded-Where, folded-Parent, folded-Local, folded-Global, folded-Foreign, made-compound, made-selector)
+pub ruleset computing = (outs-Single, block-out, pieces_of-Single, block-pieces, says-Plain, rule-says, group-says, says-Passed, says-Other, shortened-Single, parted_within-Single, takes_last-Single, erased-Single, head_kind-Single, mark_of-Single, block-mark, outs-Linked, folded-Class, folded-Id, folded-Attribute, folded-Pseudo, folded-Not, folded-Is, folded-Where, folded-Parent, folded-Local, folded-Global, folded-Foreign, made-compound, made-selector)

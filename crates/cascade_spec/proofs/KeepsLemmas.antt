@@ -7,16 +7,16 @@ use Rattle.css_tokens.specs.Piece.{Word}
 use Rattle.css_tokens.specs.Tokens.{Reads}
 use Rattle.css_tokens.specs.Trees.{words_all, all_formed}
 use Rattle.selector_types.specs.ReadableSelectors.{is_spelled}
-use Rattle.css_rules.specs.BareItems.{bare_items, bare_sheet, filled_items}
-use Rattle.css_rules.specs.Contexts.{Context, outside}
+use Rattle.sheet_types.specs.BareItems.{bare_items, bare_sheet, filled_items}
+use Rattle.sheet_types.specs.Contexts.{Context, outside}
 use Rattle.css_rules.specs.Printable.{ArePrintable, all_whole}
 use Rattle.css_rules.specs.Sheets.{sheet_of}
-use Rattle.css_rules.specs.SheetAgain.{items_again}
-use Rattle.css_rules.specs.SheetTexts.{items_text, sheet_text}
-use Rattle.css_rules.specs.Standing.{AllStand}
-use Rattle.css_rules.specs.Statements.{say_all}
-use Rattle.css_rules.specs.declared.sheet.Item.{Item}
-use Rattle.css_rules.specs.declared.sheet.Sheet.{Sheet}
+use Rattle.sheet_types.specs.SheetAgain.{items_again}
+use Rattle.sheet_types.specs.SheetTexts.{items_text, sheet_text}
+use Rattle.sheet_types.specs.Standing.{AllStand}
+use Rattle.sheet_types.specs.Statements.{say_all}
+use Rattle.sheet_types.specs.declared.sheet.Item.{Item}
+use Rattle.sheet_types.specs.declared.sheet.Sheet.{Sheet}
 use Rattle.cascade_spec.specs.Contents.{winner, passed_rules}
 use Rattle.cascade_spec.proofs.SpelledWords.{NameLaws, words-spelled}
 use Rattle.cascade_spec.specs.Readings.{HasSheet, IsReadAgain, KeepsWinners}

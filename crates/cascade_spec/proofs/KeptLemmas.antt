@@ -2,9 +2,9 @@
 use Rattle.std.proofs.Common.{◌≡◌, List, [], ◌∷◌, ◌++◌, ◌∙◌, refl, sym, ap, flat_map}
 use Rattle.std.specs.List.{AllByRecursion}
 use Rattle.std.proofs.lemmas.Grind.{flat_map-append}
-use Rattle.css_rules.specs.Contexts.{Context}
-use Rattle.css_rules.specs.Statements.{Statement, says, say_all}
-use Rattle.css_rules.specs.declared.sheet.Item.{Item}
+use Rattle.sheet_types.specs.Contexts.{Context}
+use Rattle.sheet_types.specs.Statements.{Statement, says, say_all}
+use Rattle.sheet_types.specs.declared.sheet.Item.{Item}
 use Rattle.cascade_spec.specs.Cascade.{Question}
 use Rattle.cascade_spec.specs.Contents.{IsKept, SameWinners}
 use Rattle.cascade_spec.specs.Showing.{showing, joined, entries_shown, layers_shown, passed_shown, winner_among, last_ones}

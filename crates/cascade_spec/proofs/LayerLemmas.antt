@@ -4,9 +4,9 @@ use Rattle.std.specs.Ordering.{nat_cmp, ordering_then}
 use Rattle.std.specs.Cmp.{nat_cmp_is}
 use Rattle.std.specs.Cmp.Lexicographic.{slice_cmp, same_text}
 use Rattle.std.specs.declared.cmp.Ordering.TheVariants.{Less, Equal}
-use Rattle.css_rules.specs.Contexts.{LayerPath}
-use Rattle.css_rules.specs.declared.sheet.LayerName.{LayerName}
-use Rattle.css_rules.specs.declared.sheet.LayerName.TheVariants.{Named, Anonymous}
+use Rattle.sheet_types.specs.Contexts.{LayerPath}
+use Rattle.sheet_types.specs.declared.sheet.LayerName.{LayerName}
+use Rattle.sheet_types.specs.declared.sheet.LayerName.TheVariants.{Named, Anonymous}
 use Rattle.css_tokens.specs.Trees.{is_text}
 use Rattle.cascade_spec.specs.Layers.{same_layer, is_mention, first_mention, steps_of}
 use Rattle.cascade_spec.specs.LayerOrder.{IsFirstMention, AreOrdered}

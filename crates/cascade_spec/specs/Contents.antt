@@ -1,6 +1,6 @@
 -- What wins under a sheet, and what it is for another sheet to keep that.
 use Rattle.std.specs.Prelude.{ℕ, List, Option, ◌≡◌}
-use Rattle.css_rules.specs.Statements.{BarePassed, Statement}
+use Rattle.sheet_types.specs.Statements.{BarePassed, Statement}
 use Rattle.cascade_spec.specs.Cascade.{Question}
 use Rattle.cascade_spec.specs.Showing.{showing, winner_among, last_ones}
 

@@ -3,7 +3,7 @@ use Rattle.std.specs.Prelude.{ℕ, List, [], ◌∷◌, Bool, ◌&&◌, not, Opt
 use Rattle.std.specs.List.{list_any}
 use Rattle.css_tokens.specs.Trees.{is_text}
 use Rattle.css_tokens.specs.Values.{value_text}
-use Rattle.css_rules.specs.Statements.{BareDeclaration}
+use Rattle.sheet_types.specs.Statements.{BareDeclaration}
 use Rattle.cascade_spec.specs.declared.environment.Environment.{Environment}
 use Rattle.cascade_spec.specs.declared.environment.Shorthand.{Shorthand}
 use Rattle.cascade_spec.specs.Worlds.{World}
@@ -23,9 +23,9 @@ entries_of world d = record { name = d.name; value = value_text d.value; importa
 abbrev pub is_rejected : Environment → Entry → Bool
 is_rejected env e = list_any (λ pair. is_text pair.0 e.name && is_text pair.1 e.value) env.rejected
 
--- Does the browser take the declaration? It drops a rule for a pseudo-class or pseudo-element that it does not know, and rejects some declarations.
+-- Does the declaration count? The conditions of the groups round it are to hold; the browser drops a rule for a pseudo-class or pseudo-element that it does not know, and rejects some declarations.
 abbrev pub is_active : Environment → Standing → Entry → Bool
-is_active env s e = not s.around.dropped && not (is_rejected env e)
+is_active env s e = s.holds && (not s.around.dropped && not (is_rejected env e))
 
 -- the value of the last pair with this name
 abbrev pub last_value : List ℕ → List (List ℕ × List ℕ) → Option (List ℕ)

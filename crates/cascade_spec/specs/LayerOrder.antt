@@ -1,8 +1,8 @@
 -- The order of layers in the words of the standard (CSS Cascading 5, section 6.4).
 use Rattle.std.specs.Prelude.{ℕ, ◌<◌, ◌≤◌, ◌≡◌, List, [], ◌∷◌, ◌++◌, IsTrue, false, Some, slice_get}
 use Rattle.std.specs.declared.cmp.Ordering.TheVariants.{Less}
-use Rattle.css_rules.specs.Contexts.{LayerPath}
-use Rattle.css_rules.specs.declared.sheet.LayerName.{LayerName}
+use Rattle.sheet_types.specs.Contexts.{LayerPath}
+use Rattle.sheet_types.specs.declared.sheet.LayerName.{LayerName}
 use Rattle.cascade_spec.specs.Layers.{same_layer, is_mention, layer_cmp}
 
 -- the path is mentioned first at this place

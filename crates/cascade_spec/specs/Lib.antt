@@ -1,4 +1,3 @@
-pub mod Lines
 pub mod Worlds
 pub mod Elements
 pub mod Matching
@@ -7,8 +6,8 @@ pub mod Surroundings
 pub mod Relations
 pub mod Layers
 pub mod LayerOrder
-pub mod Standings
 pub mod Truth
+pub mod Standings
 pub mod TruthSamples
 pub mod Entries
 pub mod Cascade

@@ -3,9 +3,9 @@ use Rattle.std.specs.Prelude.{List, [], ◌∷◌, ◌++◌, flat_map, ◌≡◌
 use Rattle.std.specs.List.{AllByRecursion}
 use Rattle.std.proofs.Common.{refl, sym, ◌∙◌, ap, subst}
 use Rattle.std.proofs.lemmas.Grind.{flat_map-append}
-use Rattle.css_rules.specs.declared.sheet.Item.{Item}
-use Rattle.css_rules.specs.Contexts.{outside}
-use Rattle.css_rules.specs.Statements.{say_all}
+use Rattle.sheet_types.specs.declared.sheet.Item.{Item}
+use Rattle.sheet_types.specs.Contexts.{outside}
+use Rattle.sheet_types.specs.Statements.{say_all}
 use Rattle.cascade_spec.specs.Cascade.{Question}
 use Rattle.cascade_spec.specs.Contents.{IsKept}
 

@@ -3,10 +3,10 @@ use Rattle.std.specs.Prelude.{ℕ, List, Some, ◌≡◌, IsTrue}
 use Rattle.css_tokens.specs.declared.component.Component.{Component}
 use Rattle.css_tokens.specs.Tokens.{Reads}
 use Rattle.css_tokens.specs.Trees.{words_all, all_formed}
-use Rattle.css_rules.specs.declared.sheet.Sheet.{Sheet}
-use Rattle.css_rules.specs.BareItems.{bare_sheet, filled_items}
+use Rattle.sheet_types.specs.declared.sheet.Sheet.{Sheet}
+use Rattle.sheet_types.specs.BareItems.{bare_sheet, filled_items}
 use Rattle.css_rules.specs.Sheets.{sheet_of}
-use Rattle.css_rules.specs.Statements.{statements_of}
+use Rattle.sheet_types.specs.Statements.{statements_of}
 use Rattle.cascade_spec.specs.Contents.{SameWinners}
 
 -- The text reads as these components, places aside: its tokens are their words, and their brackets are paired, to any depth.

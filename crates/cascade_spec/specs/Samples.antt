@@ -1,11 +1,15 @@
--- Layers, rules and questions over a small document, for the examples.
+-- Layers, rules, groups and questions over a small document, for the examples.
 use Rattle.std.specs.Prelude.{ℕ, List, [], ◌∷◌, ◌++◌, map, flat_map, Bool, true, false, codes}
 use Prim.Native.String.{String}
 use Rattle.css_tokens.specs.declared.kind.Kind.TheVariants as kinds
 use Rattle.css_tokens.specs.declared.component.Component as component
-use Rattle.css_rules.specs.declared.sheet.LayerName.TheVariants as LayerName
-use Rattle.css_rules.specs.Contexts.{LayerPath, outside}
-use Rattle.css_rules.specs.Statements.{BareDeclaration, BarePassed, Statement, Declares, Mentions}
+use Rattle.media_spelling.specs.Samples.{media}
+use Rattle.media_spelling.specs.declared.condition.Prefix.TheVariants.{Plain}
+use Rattle.sheet_types.specs.declared.sheet.GroupCondition.{GroupCondition}
+use Rattle.sheet_types.specs.declared.sheet.GroupCondition.TheVariants.{Media}
+use Rattle.sheet_types.specs.declared.sheet.LayerName.TheVariants as LayerName
+use Rattle.sheet_types.specs.Contexts.{LayerPath, Context, outside}
+use Rattle.sheet_types.specs.Statements.{BareDeclaration, BarePassed, Statement, Declares, Mentions}
 use Rattle.selector_types.specs.declared.selector.Compound.{Compound}
 use Rattle.selector_types.specs.declared.selector.Selector.{Selector}
 use Rattle.selector_types.specs.declared.triple.Specificity.{Specificity}
@@ -73,7 +77,7 @@ important name value = declared true name value
 
 -- declarations inside these selector lists, in no layer
 abbrev pub inside_lists : List (List Selector) → List BareDeclaration → List Statement
-inside_lists chain declarations = map (Declares (record { layer = []; chain = chain })) declarations
+inside_lists chain declarations = map (Declares (record { layer = []; chain = chain; conditions = [] })) declarations
 
 -- a rule whose selector is one compound
 abbrev pub rule : Compound → List BareDeclaration → List Statement
@@ -97,7 +101,19 @@ layered order statements = map (Mentions outside) order ++ statements
 
 -- a declaration in a rule `*` in this layer
 abbrev pub in_layer : LayerPath → BareDeclaration → Statement
-in_layer path d = Declares (record { layer = path; chain = (one every ∷ []) ∷ [] }) d
+in_layer path d = Declares (record { layer = path; chain = (one every ∷ []) ∷ []; conditions = [] }) d
+
+-- the condition of an `@media` rule with this media type
+abbrev pub on : String → GroupCondition
+on name = Media (media Plain name ∷ [])
+
+-- the top of a sheet inside groups with these conditions, the outermost first
+abbrev pub inside_groups : List GroupCondition → Context
+inside_groups conditions = record { layer = []; chain = []; conditions = conditions }
+
+-- a declaration in a rule `*` inside groups with these conditions, the outermost first
+abbrev pub under : List GroupCondition → BareDeclaration → Statement
+under conditions d = Declares (record { layer = []; chain = (one every ∷ []) ∷ []; conditions = conditions }) d
 
 -- a rule that is passed on
 abbrev pub passed : String → String → String → BarePassed

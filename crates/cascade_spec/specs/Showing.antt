@@ -3,8 +3,8 @@ use Rattle.std.specs.Prelude.{ℕ, List, [], ◌∷◌, ◌++◌, flat_map, Bool
 use Rattle.std.specs.List.{filter_map, list_any}
 use Rattle.std.specs.Option.{option_map}
 use Rattle.css_tokens.specs.Trees.{is_text}
-use Rattle.css_rules.specs.Contexts.{LayerPath}
-use Rattle.css_rules.specs.Statements.{BareDeclaration, BarePassed, Statement, Declares, Passes, Mentions}
+use Rattle.sheet_types.specs.Contexts.{LayerPath}
+use Rattle.sheet_types.specs.Statements.{BareDeclaration, BarePassed, Statement, Declares, Passes, Mentions}
 use Rattle.cascade_spec.specs.Worlds.{World}
 use Rattle.cascade_spec.specs.Standings.{Standing, standing_of}
 use Rattle.cascade_spec.specs.Entries.{Entry, entries_of, is_active, value_set}
@@ -31,16 +31,20 @@ entries_shown q (Declares c d) = declaration_shows q (standing_of q.world c) d
 entries_shown q (Passes c rule) = []
 entries_shown q (Mentions c path) = []
 
--- the layer that a statement mentions
+-- what stands so, where its conditions hold
+abbrev pub where_holding : {A : Type 0} → Standing → A → List A
+where_holding s x = if s.holds then x ∷ [] else []
+
+-- the layer that a statement mentions, where the conditions round it hold
 abbrev pub layers_shown : World → Statement → List LayerPath
 layers_shown world (Declares c d) = []
 layers_shown world (Passes c rule) = []
-layers_shown world (Mentions c path) = path ∷ []
+layers_shown world (Mentions c path) = where_holding (standing_of world c) path
 
--- the rule that a statement passes on
+-- the rule that a statement passes on, where the conditions round it hold
 abbrev pub passed_shown : World → Statement → List BarePassed
 passed_shown world (Declares c d) = []
-passed_shown world (Passes c rule) = rule ∷ []
+passed_shown world (Passes c rule) = where_holding (standing_of world c) rule
 passed_shown world (Mentions c path) = []
 
 -- what several statements show, in order of position: of their entries, the layers that they mention, and the rules that they pass on

@@ -1,5 +1,5 @@
--- Whether media queries and supports conditions hold in a browser and on its device (Media Queries 4, sections 2 and 3;
--- Conditional Rules 3, section 6).
+-- Whether media queries, supports conditions and the conditions of groups hold in a browser and on its device (Media Queries 4,
+-- sections 2 and 3; Conditional Rules 3, sections 2 and 6).
 use Rattle.std.specs.Prelude.{ℕ, List, [], ◌∷◌, Bool, true, false, not, ◌&&◌, ◌||◌, ℤ, pos, int_lt, int_le, nat_eq, codes, drop, find, Option, Some, None, if◌then◌else◌}
 use Rattle.std.specs.List.{list_all, list_any, starts_with}
 use Rattle.std.specs.Option.{option_map_or}
@@ -21,6 +21,8 @@ use Rattle.media_spelling.specs.ConditionFold as condition_fold
 use Rattle.prop_table.specs.OldFeatures.{is_range_feature}
 use Rattle.media_spelling.specs.Spelling.{feature_value, value_spelling}
 use Rattle.media_spelling.specs.SupportsFold as supports_fold
+use Rattle.sheet_types.specs.declared.sheet.GroupCondition.{GroupCondition}
+use Rattle.sheet_types.specs.declared.sheet.GroupCondition.TheVariants as groups
 use Rattle.cascade_spec.specs.declared.environment.Environment.{Environment}
 
 -- Range features.
@@ -132,3 +134,14 @@ supports_truth env = record {
 -- does the supports condition hold?
 abbrev pub supports_hold : Environment → Supports → Bool
 supports_hold env = supports_fold.folded (supports_truth env)
+
+-- Groups.
+
+-- does the condition of a group hold?
+abbrev pub group_holds : Environment → GroupCondition → Bool
+group_holds env (groups.Media queries) = queries_hold env queries
+group_holds env (groups.Supports condition) = supports_hold env condition
+
+-- does each of these conditions hold?
+abbrev pub all_hold : Environment → List GroupCondition → Bool
+all_hold env conditions = list_all (group_holds env) conditions

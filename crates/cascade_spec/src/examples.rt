@@ -1,6 +1,7 @@
 //! Worked examples of the definitions of this crate, each the contract of a function that does nothing. They speak of the
 //! page, the browser and the rules of `specs/SelectorSamples.antt` and `specs/Samples.antt`.
 
+pub mod groups;
 pub mod matching;
 pub mod passes;
 pub mod truth;
@@ -10,37 +11,17 @@ ghost use Rattle.std.specs.declared.cmp.Ordering.TheVariants.{Less, Equal, Great
 ghost use Rattle.css_rules.specs.Samples.{dot, semicolon, braces};
 ghost use Rattle.css_rules.specs.Sheets.{sheet_of};
 ghost use Rattle.std.specs.Option.{option_map};
-ghost use Rattle.cascade_spec.specs.Lines.{line_of, column_of};
 ghost use Rattle.selector_types.specs.declared.selector.Simple as simple;
 ghost use Rattle.selector_types.specs.Samples.{colon, delim, ended, every, ident, one, source, triple};
 ghost use Rattle.cascade_spec.specs.Layers.{layer_cmp};
 ghost use Rattle.cascade_spec.specs.Entries.{is_active, value_set};
-ghost use Rattle.css_rules.specs.Contexts.{outside};
-ghost use Rattle.css_rules.specs.Statements.{Passes, Mentions, statements_of};
+ghost use Rattle.sheet_types.specs.Contexts.{outside};
+ghost use Rattle.sheet_types.specs.Statements.{Passes, Mentions, statements_of};
 ghost use Rattle.cascade_spec.specs.Cascade.{winning};
 ghost use Rattle.cascade_spec.specs.Contents.{winner, passed_rules};
 ghost use Rattle.cascade_spec.specs.Showing.{showing, last_ones};
 ghost use Rattle.cascade_spec.specs.SelectorSamples.{kind, class, id, pseudo, parent, simply, also, browser, pseudo_element};
 ghost use Rattle.cascade_spec.specs.Samples.{layer, sublayer, innermost, unnamed, mentions, more_mentions, seen, normal, important, entry, important_entry, at_top, rule, inside_lists, list_rule, nested_rule, asked, asked_of, given, layered, in_layer, passed, face};
-
-/// Lines and columns begin at 1, and only LF begins a line.
-pub fn lines_and_columns()
-    ensures first_line { line_of (codes "a\nbc") 0 ≡ 1 }
-    ensures first_column { column_of (codes "a\nbc") 0 ≡ 1 }
-    ensures before_the_newline { line_of (codes "a\nbc") 1 ≡ 1 }
-    ensures column_of_the_newline { column_of (codes "a\nbc") 1 ≡ 2 }
-    ensures behind_the_newline { line_of (codes "a\nbc") 2 ≡ 2 }
-    ensures column_behind_the_newline { column_of (codes "a\nbc") 2 ≡ 1 }
-    ensures end { line_of (codes "a\nbc") 4 ≡ 2 }
-    ensures column_of_the_end { column_of (codes "a\nbc") 4 ≡ 3 }
-    ensures carriage_return { line_of (codes "a\r\nb") 3 ≡ 2 }
-    ensures form_feed { line_of (12 ∷ 12 ∷ []) 2 ≡ 1 }
-    ensures column_behind_a_carriage_return { column_of (codes "a\r\nb") 2 ≡ 3 }
-    ensures column_behind_a_form_feed { column_of (12 ∷ 12 ∷ []) 2 ≡ 3 }
-    ensures third_line { line_of (codes "a\nbc\nd") 6 ≡ 3 }
-    ensures column_of_the_third_line { column_of (codes "a\nbc\nd") 6 ≡ 2 }
-    ensures column_in_bytes { column_of (195 ∷ 169 ∷ []) 2 ≡ 3 }
-{}
 
 /// The order of the layers of `@layer reset, base, base.theme` and of a longer statement (CSS Cascading 5, section 6.4).
 pub fn layers_have_an_order()

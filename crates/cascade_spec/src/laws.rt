@@ -1,15 +1,16 @@
 //! Laws about the definitions of this crate, each the contract of a function that does nothing.
 
-ghost use Rattle.std.specs.Prelude.{◌≡◌, ◌++◌, [], ℕ, List, Bool, IsTrue, Some, flat_map, map};
+ghost use Rattle.std.specs.Prelude.{◌≡◌, ◌++◌, ◌&&◌, [], ℕ, List, Bool, true, IsTrue, Some, flat_map, map};
 ghost use Rattle.std.specs.List.{AllByRecursion};
-ghost use Rattle.css_rules.specs.Contexts.{LayerPath, Context, outside, under_list};
-ghost use Rattle.css_rules.specs.Statements.{Statement, says, say_all};
-ghost use Rattle.css_rules.specs.BareItems.{bare_sheet};
+ghost use Rattle.sheet_types.specs.Contexts.{LayerPath, Context, outside, under_condition, under_list};
+ghost use Rattle.sheet_types.specs.Statements.{Statement, says, say_all};
+ghost use Rattle.sheet_types.specs.BareItems.{bare_sheet};
 ghost use Rattle.css_rules.specs.Printable.{all_whole};
-ghost use Rattle.css_rules.specs.SheetTexts.{sheet_text};
+ghost use Rattle.sheet_types.specs.SheetTexts.{sheet_text};
 ghost use Rattle.selector_types.specs.declared.selector.Combinator.TheVariants.{Descendant, Child, Next, Later};
-ghost use Rattle.css_rules.specs.declared.sheet.Item.{Item};
-ghost use Rattle.css_rules.specs.declared.sheet.Sheet.{Sheet};
+ghost use Rattle.sheet_types.specs.declared.sheet.GroupCondition.{GroupCondition};
+ghost use Rattle.sheet_types.specs.declared.sheet.Item.{Item};
+ghost use Rattle.sheet_types.specs.declared.sheet.Sheet.{Sheet};
 ghost use Rattle.selector_types.specs.Erased.{erased};
 ghost use Rattle.selector_types.specs.declared.selector.Selector.{Selector};
 ghost use Rattle.cascade_spec.specs.declared.document.Document.{Document};
@@ -19,6 +20,7 @@ ghost use Rattle.cascade_spec.specs.Surroundings.{Around, top, within, around_al
 ghost use Rattle.cascade_spec.specs.Relations.{IsReached, IsPrevious, previous_of, ParentsComeFirst, HoldsOfOne};
 ghost use Rattle.cascade_spec.specs.LayerOrder.{AreOrdered};
 ghost use Rattle.cascade_spec.specs.Standings.{standing_of};
+ghost use Rattle.cascade_spec.specs.Truth.{all_hold, group_holds};
 ghost use Rattle.cascade_spec.specs.Cascade.{Question, Shown, IsWinner, winning};
 ghost use Rattle.cascade_spec.specs.Contents.{IsKept, SameWinners};
 ghost use Rattle.cascade_spec.specs.Showing.{showing, joined};
@@ -64,11 +66,14 @@ pub fn combinators_relate()
     ensures only_previous { (doc : Document) (n m : ℕ) → IsPrevious doc m n → previous_of doc n ≡ Some m }
 {}
 
-/// At the top of a sheet nothing is round a declaration, and it is in no layer. A style rule's list stands inside what is
-/// round the rule, however many lists that is, and in the same layer (CSS Nesting 1, section 3).
+/// At the top of a sheet nothing is round a declaration, it is in no layer, and no condition fails. A style rule's list stands
+/// inside what is round the rule, however many lists that is, in the same layer and under the same conditions (CSS Nesting 1,
+/// section 3). In a group all that holds round it has to hold and its condition too, and nothing else changes (Conditional
+/// Rules 3, section 2).
 pub fn surroundings_stand()
-    ensures none { (world : World) → standing_of world outside ≡ record { layer = []; around = top } }
-    ensures one_more { (world : World) (list : List Selector) (c : Context) → standing_of world (under_list list c) ≡ record { layer = c.layer; around = within world (around_all world c.chain) list } }
+    ensures none { (world : World) → standing_of world outside ≡ record { holds = true; layer = []; around = top } }
+    ensures one_more { (world : World) (list : List Selector) (c : Context) → standing_of world (under_list list c) ≡ record { holds = all_hold world.environment c.conditions; layer = c.layer; around = within world (around_all world c.chain) list } }
+    ensures one_more_condition { (world : World) (condition : GroupCondition) (c : Context) → standing_of world (under_condition condition c) ≡ record { holds = all_hold world.environment c.conditions && group_holds world.environment condition; layer = c.layer; around = around_all world c.chain } }
 {}
 
 /// Selector lists that differ in places alone are the same round a rule: they match the same subjects, are as specific for

@@ -2,15 +2,15 @@
 
 ghost use Rattle.std.specs.Prelude.{◌≡◌, List, flat_map, IfOk};
 ghost use Rattle.std.specs.List.{AllByRecursion};
-ghost use Rattle.css_rules.specs.declared.sheet.Item.{Item};
-ghost use Rattle.css_rules.specs.Contexts.{outside};
-ghost use Rattle.css_rules.specs.Statements.{say_all};
+ghost use Rattle.sheet_types.specs.declared.sheet.Item.{Item};
+ghost use Rattle.sheet_types.specs.Contexts.{outside};
+ghost use Rattle.sheet_types.specs.Statements.{say_all};
 ghost use Rattle.cascade_spec.specs.Cascade.{Question};
 ghost use Rattle.cascade_spec.specs.Contents.{IsKept};
 ghost use Rattle.cascade_spec.specs.Worlds.{World};
 
-use css_rules::Sheet;
 use css_tokens::OutOfMemory;
+use sheet_types::Sheet;
 use std::alloc::Global;
 
 /// A rewriting of sheets, item by item. Whoever implements it shows once, for every list of items that it takes, that

@@ -1,12 +1,12 @@
 //! The least pass, and what two passes keep.
 ghost use Rattle.std.specs.Prelude.{IfOk};
-ghost use Rattle.css_rules.specs.Contexts.{outside};
-ghost use Rattle.css_rules.specs.Statements.{say_all};
+ghost use Rattle.sheet_types.specs.Contexts.{outside};
+ghost use Rattle.sheet_types.specs.Statements.{say_all};
 ghost use Rattle.cascade_spec.specs.Contents.{SameWinners};
 
 use crate::{Chain, Pass, lower};
-use css_rules::Sheet;
 use css_tokens::OutOfMemory;
+use sheet_types::Sheet;
 use std::alloc::Global;
 
 /// A pass that gives each item as it is.

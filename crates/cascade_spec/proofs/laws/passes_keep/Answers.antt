@@ -1,5 +1,5 @@
-use Rattle.css_rules.specs.Contexts.{outside}
-use Rattle.css_rules.specs.Statements.{say_all}
+use Rattle.sheet_types.specs.Contexts.{outside}
+use Rattle.sheet_types.specs.Statements.{say_all}
 use Rattle.std.proofs.Common.{flat_map}
 use Rattle.cascade_spec.proofs.AlikeLemmas.{all-shown}
 use Rattle.cascade_spec.proofs.KeptLemmas.{kept-shown}

@@ -1,4 +1,4 @@
-use Rattle.css_rules.specs.SheetTexts.{sheet_text}
+use Rattle.sheet_types.specs.SheetTexts.{sheet_text}
 use Rattle.cascade_spec.proofs.KeepsLemmas.{SheetLaws, again-keeps, one-sheet, reads-again}
 use Rattle.cascade_spec.proofs.laws.sheets_keep_winners.Goals as goal
 

@@ -1,10 +1,10 @@
-use Rattle.std.proofs.Common.{[], ◌∷◌, refl, ap}
-use Rattle.std.proofs.lemmas.List.Sums.{fold-append}
-use Rattle.cascade_spec.specs.Surroundings.{top, within}
+use Rattle.std.proofs.Common.{refl}
+use Rattle.cascade_spec.proofs.AlikeLemmas.{at-condition, at-list}
 use Rattle.cascade_spec.proofs.laws.surroundings_stand.Goals as goal
 
 pub returns : goal.returns
 returns c = record {
   none = λ world. refl;
-  one_more = λ world list context. ap (λ around. record { layer = context.layer; around = around }) (fold-append (within world) top context.chain (list ∷ []));
+  one_more = at-list;
+  one_more_condition = at-condition;
 }

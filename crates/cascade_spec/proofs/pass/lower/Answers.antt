@@ -1,7 +1,7 @@
 use Rattle.std.proofs.Common.{List, sym, subst}
-use Rattle.css_rules.specs.declared.sheet.Item.{Item}
-use Rattle.css_rules.specs.Contexts.{outside}
-use Rattle.css_rules.specs.Statements.{say_all}
+use Rattle.sheet_types.specs.declared.sheet.Item.{Item}
+use Rattle.sheet_types.specs.Contexts.{outside}
+use Rattle.sheet_types.specs.Statements.{say_all}
 use Rattle.cascade_spec.specs.Contents.{IsKept}
 use Rattle.cascade_spec.proofs.pass.lower.Goals as goal
 
