@@ -3,14 +3,18 @@ use Rattle.std.proofs.Common.{◌≡◌, ℕ, ◌<◌, List, [], ◌∷◌, ◌+
 use Rattle.std.specs.Prelude.{flat_map, IsTrue, ◌↔◌}
 use Rattle.std.proofs.lemmas.List.Folds.{flat_map-map}
 use Rattle.css_tokens.specs.NameText.{name_text}
-use Rattle.css_rules.specs.declared.sheet.Declaration.{Declaration}
-use Rattle.css_rules.specs.ItemInduction.{by_items}
-use Rattle.css_rules.specs.declared.sheet.Item.{Item, Plain, Style as the_style}
-use Rattle.css_rules.specs.declared.sheet.Style.{Style}
+use Rattle.sheet_types.specs.declared.sheet.Declaration.{Declaration}
+use Rattle.sheet_types.specs.ItemInduction.{by_items}
+use Rattle.sheet_types.specs.declared.sheet.Group.{Group}
+use Rattle.sheet_types.specs.declared.sheet.GroupCondition.{GroupCondition}
+use Rattle.sheet_types.specs.declared.sheet.GroupCondition.TheVariants.{Media, Supports}
+use Rattle.sheet_types.specs.declared.sheet.Item.{Item, Plain, Group as the_group, Other, Passed as the_passed, Style as the_style}
+use Rattle.sheet_types.specs.declared.sheet.Passed.{Passed}
+use Rattle.sheet_types.specs.declared.sheet.Style.{Style}
 use Rattle.selector_types.specs.declared.selector.Selector.{Selector}
 use Rattle.selector_types.specs.Spelling.{list_text}
-use Rattle.css_rules.specs.SheetTexts.{ItemText, block_text, braced_text, declaration_text, declarations_text, ended_declarations, more_declarations, printed_item, printed_item-Plain, printed_item-Style, rule_text}
-use Rattle.css_print.specs.Private.Printed.{holds_bytes}
+use Rattle.sheet_types.specs.SheetTexts.{ItemText, block_text, braced_text, declaration_text, declarations_text, ended_declarations, group_text, items_text, more_declarations, passed_text, printed_item, printed_item-Group, printed_item-Other, printed_item-Passed, printed_item-Plain, printed_item-Style, rule_text}
+use Rattle.css_print.specs.Private.Printed.{braced_group, holds_bytes}
 
 -- the text of an item that is alone in its block, and its text among others
 abbrev pub text_alone : Item → List ℕ
@@ -63,6 +67,9 @@ held-alone item =
     by_items (λ x. holds_bytes (text_alone x) ≡ holds_bytes (text_among x)) (record {
       plain = λ ds. ap (λ (t : ItemText). holds_bytes t.alone) (printed_item-Plain ds) ∙ run ds ∙ sym (ap (λ (t : ItemText). holds_bytes t.among) (printed_item-Plain ds));
       style = λ s each. ap (λ (t : ItemText). holds_bytes t.alone) (printed_item-Style s) ∙ sym (ap (λ (t : ItemText). holds_bytes t.among) (printed_item-Style s));
+      group = λ g each. ap (λ (t : ItemText). holds_bytes t.alone) (printed_item-Group g) ∙ sym (ap (λ (t : ItemText). holds_bytes t.among) (printed_item-Group g));
+      passed = λ rule. ap (λ (t : ItemText). holds_bytes t.alone) (printed_item-Passed rule) ∙ sym (ap (λ (t : ItemText). holds_bytes t.among) (printed_item-Passed rule));
+      other = λ at. ap (λ (t : ItemText). holds_bytes t.alone) (printed_item-Other at) ∙ sym (ap (λ (t : ItemText). holds_bytes t.among) (printed_item-Other at));
     }) item
   where
     run : (ds : List Declaration) → holds_bytes (declarations_text ds) ≡ holds_bytes (ended_declarations ds)
@@ -93,3 +100,40 @@ pub text-block : (items : List Item) → 1 < length items → block_text (map pr
 text-block [] many = absurd (omega (arith, many))
 text-block (item ∷ []) many = absurd (omega (arith, many))
 text-block (first ∷ second ∷ items) many = flat_map-map (λ (t : ItemText). t.among) printed_item (first ∷ second ∷ items)
+
+-- Groups, rules that are passed on and other at-rules.
+
+pub group-some : (condition : GroupCondition) (text : List ℕ) → holds_bytes text ≡ true → group_text condition text ≡ braced_group condition text
+group-some condition [] e = absurd (cc e)
+group-some condition (c ∷ cs) e = refl
+
+pub group-none : (condition : GroupCondition) (text : List ℕ) → holds_bytes text ≡ false → group_text condition text ≡ []
+group-none condition [] e = refl
+group-none condition (c ∷ cs) e = absurd (cc e)
+
+-- a group is printed where its block is
+held-lines : (condition : GroupCondition) (text : List ℕ) → holds_bytes (group_text condition text) ≡ holds_bytes text
+held-lines condition [] = refl
+held-lines (Media list) (c ∷ cs) = refl
+held-lines (Supports condition) (c ∷ cs) = refl
+
+pub text-group : (g : Group) → text_among (the_group g) ≡ group_text g.condition (items_text g.items)
+text-group g = ap (λ (t : ItemText). t.among) (printed_item-Group g)
+
+pub alone-group : (g : Group) → text_alone (the_group g) ≡ text_among (the_group g)
+alone-group g = ap (λ (t : ItemText). t.alone) (printed_item-Group g) ∙ sym (text-group g)
+
+pub held-group : (g : Group) → holds_bytes (text_among (the_group g)) ≡ holds_bytes (items_text g.items)
+held-group g = ap holds_bytes (text-group g) ∙ held-lines g.condition (items_text g.items)
+
+pub text-passed : (rule : Passed) → text_among (the_passed rule) ≡ passed_text rule
+text-passed rule = ap (λ (t : ItemText). t.among) (printed_item-Passed rule)
+
+pub alone-passed : (rule : Passed) → text_alone (the_passed rule) ≡ passed_text rule
+alone-passed rule = ap (λ (t : ItemText). t.alone) (printed_item-Passed rule)
+
+pub text-other : (at : ℕ) → text_among (Other at) ≡ []
+text-other at = ap (λ (t : ItemText). t.among) (printed_item-Other at)
+
+pub alone-other : (at : ℕ) → text_alone (Other at) ≡ []
+alone-other at = ap (λ (t : ItemText). t.alone) (printed_item-Other at)

@@ -1,6 +1,7 @@
 //! The text of a sheet, as browsers are given it.
 #![tactic(auto)]
 
+mod heads;
 mod writer;
 
 pub use writer::print;

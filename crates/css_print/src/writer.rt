@@ -1,13 +1,14 @@
-ghost use Rattle.css_rules.specs.SheetTexts.{block_text, braced_text, declaration_text, declarations_text, ended_declarations, importance_text, more_declarations, printed_item, printed_value, sheet_text};
-ghost use Rattle.css_rules.specs.declared.sheet.Item.{Style as the_style};
+ghost use Rattle.sheet_types.specs.SheetTexts.{block_text, braced_text, declaration_text, declarations_text, ended_declarations, importance_text, items_text, more_declarations, passed_text, printed_item, printed_value, sheet_text};
+ghost use Rattle.sheet_types.specs.declared.sheet.Item.{Group as the_group, Style as the_style};
 ghost use Rattle.css_tokens.specs.Appends.{AppendsFront};
 ghost use Rattle.css_tokens.specs.NameText.{name_text};
-ghost use Rattle.css_print.specs.Private.Printed.{holds_bytes};
+ghost use Rattle.css_print.specs.Private.Printed.{braced_group, holds_bytes};
 ghost use Rattle.std.specs.Prelude.{◌≡◌, ◌++◌, List, flat_map, map, IfOk, OnErr, OnOk};
 
-use css_rules::{Declaration, Item, Sheet, Style};
+use crate::heads::{write_condition, write_passed};
 use css_tokens::{Component, List, OutOfMemory, Text};
 use selector_tree::write_list;
+use sheet_types::{Declaration, Group, Item, Sheet, Style};
 use std::alloc::Global;
 
 // Writes a name by the identifier serialization of CSSOM, and an empty one as nothing.
@@ -91,7 +92,7 @@ fn write_ended(run: &[Declaration], out: &mut List<u8>) -> Result<(), OutOfMemor
     Ok(())
 }
 
-// Whether anything of an item is printed. Rules stand in at most 64 others, so that each may ask it anew.
+// Whether anything of an item is printed. Rules and groups stand in at most 64 others, so that each may ask it anew.
 #[cycle(printed)]
 fn is_printed(item: &Item) -> bool
     ensures { result ≡ holds_bytes (printed_item item.now).among }
@@ -99,6 +100,9 @@ fn is_printed(item: &Item) -> bool
     match item {
         Item::Style(style) => is_any_printed(style.items.as_slice()),
         Item::Plain(declarations) => !declarations.is_empty(),
+        Item::Group(group) => is_any_printed(group.items.as_slice()),
+        Item::Passed(_) => true,
+        Item::Other(_) => false,
     }
 }
 
@@ -124,6 +128,9 @@ fn write_item(item: &Item, out: &mut List<u8>) -> Result<(), OutOfMemory>
     match item {
         Item::Style(style) => write_style(style, out),
         Item::Plain(declarations) => write_ended(declarations.as_slice(), out),
+        Item::Group(group) => write_group(group, out),
+        Item::Passed(rule) => write_passed(rule, out),
+        Item::Other(_) => Ok(()),
     }
 }
 
@@ -136,6 +143,9 @@ fn write_alone(item: &Item, out: &mut List<u8>) -> Result<(), OutOfMemory>
     match item {
         Item::Style(style) => write_style(style, out),
         Item::Plain(declarations) => write_declarations(declarations.as_slice(), out),
+        Item::Group(group) => write_group(group, out),
+        Item::Passed(rule) => write_passed(rule, out),
+        Item::Other(_) => Ok(()),
     }
 }
 
@@ -160,6 +170,30 @@ fn write_rule(style: &Style, out: &mut List<u8>) -> Result<(), OutOfMemory>
     write_list(style.selectors.as_slice(), out)?;
     out.extend_from_slice(b"{")?;
     write_block(style.items.as_slice(), out)?;
+    out.extend_from_slice(b"}\n")
+}
+
+// Writes a group, where anything in it is printed.
+#[cycle(print)]
+fn write_group(group: &Group, out: &mut List<u8>) -> Result<(), OutOfMemory>
+    ensures ok { OnOk result (out.new ≡ out.old ++ (printed_item (the_group group.now)).among) }
+    ensures err { OnErr result (AppendsFront out.old out.new (printed_item (the_group group.now)).among) }
+{
+    if is_any_printed(group.items.as_slice()) {
+        return write_lines(group, out);
+    }
+    Ok(())
+}
+
+// Writes what stands before the block of a group, and the block on lines of its own.
+#[cycle(print)]
+fn write_lines(group: &Group, out: &mut List<u8>) -> Result<(), OutOfMemory>
+    ensures ok { OnOk result (out.new ≡ out.old ++ braced_group group.now.condition (items_text group.now.items)) }
+    ensures err { OnErr result (AppendsFront out.old out.new (braced_group group.now.condition (items_text group.now.items))) }
+{
+    write_condition(&group.condition, out)?;
+    out.extend_from_slice(b"{\n")?;
+    write_items(group.items.as_slice(), out)?;
     out.extend_from_slice(b"}\n")
 }
 
@@ -188,8 +222,9 @@ fn write_items(items: &[Item], out: &mut List<u8>) -> Result<(), OutOfMemory>
     Ok(())
 }
 
-/// The text of a sheet: each rule on a line of its own, with no white space that could be left out (CSSOM, sections 6.4 and
-/// 6.7). A rule that declares nothing is not printed. It refuses nothing, want of memory aside.
+/// The text of a sheet: each rule on a line of its own, and a group on lines of its own, with no white space that could be left
+/// out (CSSOM, sections 6.4 and 6.7; Conditional Rules 3, section 2). A rule that declares nothing is not printed, nor is a group
+/// in which nothing is, nor an at-rule of another name. It refuses nothing, want of memory aside.
 pub fn print(alloc: Global, sheet: &Sheet) -> Result<List<u8>, OutOfMemory>
     ensures { IfOk result (λ text. text ≡ sheet_text sheet.now) }
 {

@@ -7,7 +7,7 @@ use Rattle.std.proofs.lemmas.Slice.Eq.{bytes_eq-Decides}
 use Rattle.css_tokens.specs.Trees.{is_text}
 use Rattle.css_rules.specs.Refusals.{has_sought, is_unbuilt_property, sought_for}
 use Rattle.css_rules.specs.Sheets.{is_unbuilt}
-use Rattle.css_rules.specs.declared.sheet.Declaration.{Declaration}
+use Rattle.sheet_types.specs.declared.sheet.Declaration.{Declaration}
 use Rattle.prop_table.specs.LogicalProperties.{is_logical, logical_properties}
 use Rattle.target_check.specs.Targets.{is_axis, is_flow_value, is_old_declaration, is_old_property, is_side}
 

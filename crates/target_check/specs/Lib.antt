@@ -1,2 +1,3 @@
+pub mod MediaTargets
 pub mod Targets
 pub mod Samples

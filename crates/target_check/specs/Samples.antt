@@ -1,9 +1,11 @@
 -- Rules and sheets for the worked examples.
 use Rattle.std.specs.Prelude.{List, [], ◌∷◌}
-use Rattle.css_rules.specs.declared.sheet.Declaration.{Declaration}
-use Rattle.css_rules.specs.declared.sheet.Item as item
-use Rattle.css_rules.specs.declared.sheet.Sheet.{Sheet}
-use Rattle.css_rules.specs.declared.sheet.Style as style
+use Rattle.sheet_types.specs.declared.sheet.Declaration.{Declaration}
+use Rattle.sheet_types.specs.declared.sheet.GroupCondition.{GroupCondition}
+use Rattle.sheet_types.specs.declared.sheet.Item.{Item}
+use Rattle.sheet_types.specs.declared.sheet.Item as item
+use Rattle.sheet_types.specs.declared.sheet.Sheet.{Sheet}
+use Rattle.sheet_types.specs.declared.sheet.Style as style
 use Rattle.selector_types.specs.declared.selector.Selector.{Selector}
 
 -- a rule of these selectors with one run of declarations
@@ -17,3 +19,11 @@ nested_in selectors inner = record { selectors = selectors; items = item.Style i
 -- a sheet of this rule alone
 abbrev pub sheet_of_rule : style.Style → Sheet
 sheet_of_rule rule = record { items = item.Style rule ∷ [] }
+
+-- a sheet of this item alone
+abbrev pub sheet_of_item : Item → Sheet
+sheet_of_item x = record { items = x ∷ [] }
+
+-- a sheet of one group, with this condition and these items
+abbrev pub sheet_of_group : GroupCondition → List Item → Sheet
+sheet_of_group condition items = sheet_of_item (item.Group (record { condition = condition; items = items; at = 0 }))

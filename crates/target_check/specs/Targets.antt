@@ -1,6 +1,9 @@
--- Which sheets hold nothing that older browsers do not read (this project's own, after Selectors 3, sections 5 to 8, and CSS Logical 1).
-use Rattle.std.specs.Prelude.{ℕ, List, [], ◌∷◌, Bool, true, false, not, ◌&&◌, ◌||◌, is_none, codes}
+-- Which sheets hold nothing that older browsers do not read (this project's own, after Selectors 3, sections 5 to 8, Media Queries 3,
+-- Conditional Rules 3 and CSS Logical 1).
+use Rattle.std.specs.Prelude.{ℕ, List, [], ◌∷◌, ◌≡◌, Bool, true, false, not, ◌&&◌, ◌||◌, is_none, codes}
 use Rattle.std.specs.List.{list_all, list_any}
+use Rattle.std.proofs.Common.{map, refl, ◌∙◌, ap, ap₂}
+use Rattle.std.proofs.lemmas.List.Folds.{list_all-map}
 use Rattle.css_tokens.specs.Trees.{is_text}
 use Rattle.css_tokens.specs.declared.component.Component.{Component}
 use Rattle.selector_types.specs.LoneSimples.{Opened, is_one_simple}
@@ -12,13 +15,18 @@ use Rattle.selector_types.specs.declared.selector.Simple.{Simple}
 use Rattle.selector_types.specs.declared.selector.Simple as simple
 use Rattle.css_rules.specs.Components.{head, is_ident, is_keyword, name_of}
 use Rattle.css_rules.specs.Cuts.{trimmed}
-use Rattle.css_rules.specs.declared.sheet.Declaration.{Declaration}
-use Rattle.css_rules.specs.declared.sheet.Item.{Item}
-use Rattle.css_rules.specs.declared.sheet.Item as item
-use Rattle.css_rules.specs.declared.sheet.Item.TheOpen.{Item-F, Style, Plain}
-use Rattle.css_rules.specs.declared.sheet.Style as style
-use Rattle.css_rules.specs.declared.sheet.Sheet.{Sheet}
+use Rattle.sheet_types.specs.declared.sheet.Declaration.{Declaration}
+use Rattle.sheet_types.specs.declared.sheet.Item.{Item}
+use Rattle.sheet_types.specs.declared.sheet.Item as item
+use Rattle.sheet_types.specs.declared.sheet.Group as group
+use Rattle.sheet_types.specs.declared.sheet.GroupCondition.{GroupCondition}
+use Rattle.sheet_types.specs.declared.sheet.GroupCondition.TheVariants.{Media, Supports}
+use Rattle.sheet_types.specs.declared.sheet.Passed.{Passed}
+use Rattle.sheet_types.specs.declared.sheet.Style as style
+use Rattle.sheet_types.specs.declared.sheet.Sheet.{Sheet}
+use Rattle.sheet_types.specs.ItemFold.{Steps, folded, folded-Plain, folded-Style, folded-Group, folded-Passed, folded-Other}
 use Rattle.prop_table.specs.LogicalProperties.{is_logical}
+use Rattle.target_check.specs.MediaTargets.{is_target_list}
 
 -- Selectors.
 
@@ -93,25 +101,79 @@ abbrev pub has_some : {A : Type 0} → List A → Bool
 has_some [] = false
 has_some (x ∷ xs) = true
 
--- an item of a style rule's block: declarations, and no rule
-abbrev pub is_run : Item-F Item style.Style → Bool
-is_run (Plain ds) = list_all is_old_declaration ds
-is_run (Style s) = false
+-- a media list of a target sheet, or any supports condition
+abbrev pub is_old_condition : GroupCondition → Bool
+is_old_condition (Media list) = is_target_list list
+is_old_condition (Supports condition) = true
+
+-- What an item is to older browsers. As an item of the block of a style rule: is it declarations that they know, and does it declare anything? As an item of a sheet or of a group: do they read all of it?
+pub record Age : Type 0 where
+  pub run : Bool
+  pub declares : Bool
+  pub old : Bool
+
+-- neither declarations nor anything that they read
+abbrev pub young : Age
+young = record { run = false; declares = false; old = false }
+
+-- Older browsers read a style rule that declares something, holds no rule or group, and has selectors that they read; a group that holds something, each of it an item that they read, under a condition that they read; and a rule that is passed on.
+abbrev pub aging : Steps Age
+aging = record {
+  plain = λ ds. record { run = list_all is_old_declaration ds; declares = has_some ds; old = false };
+  style = λ selectors at inner. record { run = false; declares = false; old = list_all is_old_selector selectors && (list_all (λ (age : Age). age.run) inner && list_any (λ (age : Age). age.declares) inner) };
+  group = λ condition at inner. record { run = false; declares = false; old = is_old_condition condition && (has_some inner && list_all (λ (age : Age). age.old) inner) };
+  passed = λ rule. record { run = false; declares = false; old = true };
+  other = λ at. young;
+}
+
+abbrev pub age : Item → Age
+age = folded aging
+
+-- an item of a style rule's block: declarations that older browsers know
+abbrev pub is_run : Item → Bool
+is_run x = (age x).run
 
 -- does the item declare anything?
-abbrev pub declares : Item-F Item style.Style → Bool
-declares (Plain ds) = has_some ds
-declares (Style s) = false
+abbrev pub declares : Item → Bool
+declares x = (age x).declares
 
--- a style rule that declares something, with no rule in it, and with selectors that older browsers read
-abbrev pub is_old_style : style.Style → Bool
-is_old_style s = list_all is_old_selector s.selectors && (list_all (λ x. is_run (item.out-Item x)) s.items && list_any (λ x. declares (item.out-Item x)) s.items)
+-- an item of a sheet or of a group that older browsers read
+abbrev pub is_old_item : Item → Bool
+is_old_item x = (age x).old
 
--- an item at the top: such a style rule
-abbrev pub is_old_rule : Item-F Item style.Style → Bool
-is_old_rule (Plain ds) = false
-is_old_rule (Style s) = is_old_style s
-
--- Is it a target sheet: is each item of it such a rule?
+-- Is it a target sheet: is each item of it so?
 abbrev pub is_target : Sheet → Bool
-is_target sheet = list_all (λ x. is_old_rule (item.out-Item x)) sheet.items
+is_target sheet = list_all is_old_item sheet.items
+
+-- Equations.
+
+list_any-map : {X Y : Type 0} (p : Y → Bool) (f : X → Y) (xs : List X) → list_any p (map f xs) ≡ list_any (λ x. p (f x)) xs
+list_any-map p f [] = refl
+list_any-map p f (x ∷ xs) = ap (λ b. p (f x) || b) (list_any-map p f xs)
+
+has_some-map : {X Y : Type 0} (f : X → Y) (xs : List X) → has_some (map f xs) ≡ has_some xs
+has_some-map f [] = refl
+has_some-map f (x ∷ xs) = refl
+
+pub age-Plain : (ds : List Declaration) → age (item.Plain ds) ≡ record { run = list_all is_old_declaration ds; declares = has_some ds; old = false }
+age-Plain ds = folded-Plain aging ds
+
+pub age-Style : (s : style.Style) → age (item.Style s) ≡ record { run = false; declares = false; old = list_all is_old_selector s.selectors && (list_all is_run s.items && list_any declares s.items) }
+age-Style s =
+    folded-Style aging s
+    ∙ ap₂ (λ runs fills. record { run = false; declares = false; old = list_all is_old_selector s.selectors && (runs && fills) })
+    (list_all-map (λ (a : Age). a.run) age s.items)
+    (list_any-map (λ (a : Age). a.declares) age s.items)
+
+pub age-Group : (g : group.Group) → age (item.Group g) ≡ record { run = false; declares = false; old = is_old_condition g.condition && (has_some g.items && list_all is_old_item g.items) }
+age-Group g =
+    folded-Group aging g
+    ∙ ap₂ (λ fills olds. record { run = false; declares = false; old = is_old_condition g.condition && (fills && olds) })
+    (has_some-map age g.items)
+    (list_all-map (λ (a : Age). a.old) age g.items)
+
+pub age-Passed : (rule : Passed) → age (item.Passed rule) ≡ record { run = false; declares = false; old = true }
+age-Passed rule = folded-Passed aging rule
+
+pub age-Other : (at : ℕ) → age (item.Other at) ≡ young
+age-Other at = folded-Other aging at

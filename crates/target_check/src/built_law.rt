@@ -1,7 +1,7 @@
 //! A law about the definitions of this crate, the contract of a function that does nothing.
 ghost use Rattle.css_rules.specs.Refusals.{is_unbuilt_property};
 ghost use Rattle.css_rules.specs.Sheets.{is_unbuilt};
-ghost use Rattle.css_rules.specs.declared.sheet.Declaration.{Declaration};
+ghost use Rattle.sheet_types.specs.declared.sheet.Declaration.{Declaration};
 ghost use Rattle.prop_table.specs.LogicalProperties.{is_logical};
 ghost use Rattle.std.specs.Prelude.{◌≡◌, ℕ, List, IsTrue, false};
 ghost use Rattle.target_check.specs.Targets.{is_old_declaration};

@@ -1,12 +1,12 @@
 ghost use Rattle.std.specs.List.{list_all, list_any};
-ghost use Rattle.std.specs.Prelude.{◌≡◌};
-ghost use Rattle.css_rules.specs.declared.sheet.Item as the_item;
-ghost use Rattle.target_check.specs.Targets.{declares, is_old_declaration, is_old_rule, is_old_selector, is_old_style, is_run, is_target};
+ghost use Rattle.std.specs.Prelude.{◌≡◌, ◌&&◌};
+ghost use Rattle.target_check.specs.Targets.{declares, has_some, is_old_condition, is_old_declaration, is_old_item, is_old_selector, is_run, is_target};
 
 use crate::declaration::is_old_declaration;
+use crate::media::is_old_condition;
 use crate::selector::is_old_selector;
-use css_rules::{Declaration, Item, Sheet, Style};
 use selector_tree::Selector;
+use sheet_types::{Declaration, Group, Item, Sheet, Style};
 
 fn are_old(declarations: &[Declaration]) -> bool
     ensures { result ≡ list_all is_old_declaration declarations.now }
@@ -14,34 +14,34 @@ fn are_old(declarations: &[Declaration]) -> bool
     declarations.iter().all(is_old_declaration)
 }
 
-#[tactic(auto, using(crate::proofs::Parts::opened_items))]
+#[tactic(auto, using(crate::proofs::Parts::runs))]
 fn is_run(item: &Item) -> bool
-    ensures { result ≡ is_run (the_item.out-Item item.now) }
+    ensures { result ≡ is_run item.now }
 {
     match item {
         Item::Plain(declarations) => are_old(declarations.as_slice()),
-        Item::Style(_) => false,
+        Item::Style(_) | Item::Group(_) | Item::Passed(_) | Item::Other(_) => false,
     }
 }
 
 fn are_runs(items: &[Item]) -> bool
-    ensures { result ≡ list_all (λ x. is_run (the_item.out-Item x)) items.now }
+    ensures { result ≡ list_all is_run items.now }
 {
     items.iter().all(is_run)
 }
 
-#[tactic(auto, using(crate::proofs::Parts::opened_items))]
+#[tactic(auto, using(crate::proofs::Parts::fills))]
 fn declares(item: &Item) -> bool
-    ensures { result ≡ declares (the_item.out-Item item.now) }
+    ensures { result ≡ declares item.now }
 {
     match item {
         Item::Plain(declarations) => !declarations.is_empty(),
-        Item::Style(_) => false,
+        Item::Style(_) | Item::Group(_) | Item::Passed(_) | Item::Other(_) => false,
     }
 }
 
 fn is_full(items: &[Item]) -> bool
-    ensures { result ≡ list_any (λ x. declares (the_item.out-Item x)) items.now }
+    ensures { result ≡ list_any declares items.now }
 {
     items.iter().any(declares)
 }
@@ -53,29 +53,55 @@ fn are_old_selectors(selectors: &[Selector]) -> bool
 }
 
 fn is_old_style(style: &Style) -> bool
-    ensures { result ≡ is_old_style style.now }
+    ensures { result ≡ (list_all is_old_selector style.now.selectors && (list_all is_run style.now.items && list_any declares style.now.items)) }
 {
     are_old_selectors(style.selectors.as_slice())
         && are_runs(style.items.as_slice())
         && is_full(style.items.as_slice())
 }
 
-#[tactic(auto, using(crate::proofs::Parts::opened_items))]
-fn is_old_rule(item: &Item) -> bool
-    ensures { result ≡ is_old_rule (the_item.out-Item item.now) }
+#[cycle(ages)]
+#[tactic(auto, using(crate::proofs::Parts::olds))]
+fn is_old_item(item: &Item) -> bool
+    ensures { result ≡ is_old_item item.now }
 {
     match item {
         Item::Style(style) => is_old_style(style),
-        Item::Plain(_) => false,
+        Item::Group(group) => is_old_group(group),
+        Item::Passed(_) => true,
+        Item::Plain(_) | Item::Other(_) => false,
     }
 }
 
-/// Whether a sheet is a target sheet: it holds style rules alone, each declares something and holds no rule, and each selector
-/// is one of Selectors 3, but for pseudo-classes and pseudo-elements of any name without an argument. No declaration is
-/// `composes`, a logical property (CSS Logical 1, section 4), or `float`, `clear` or `resize` with a flow-relative keyword alone
-/// (sections 2.2 and 2.4). Takes no memory.
+#[cycle(ages)]
+fn is_old_group(group: &Group) -> bool
+    ensures { result ≡ (is_old_condition group.now.condition && (has_some group.now.items && list_all is_old_item group.now.items)) }
+{
+    is_old_condition(&group.condition)
+        && !group.items.is_empty()
+        && are_old_items(group.items.as_slice())
+}
+
+#[cycle(ages)]
+fn are_old_items(items: &[Item]) -> bool
+    ensures { result ≡ list_all is_old_item items.now }
+{
+    for item in items {
+        if !is_old_item(item) {
+            return false;
+        }
+    }
+    true
+}
+
+/// Whether a sheet is a target sheet: it holds style rules, groups and rules that are passed on alone. A style rule declares
+/// something and holds no rule or group, and each selector is one of Selectors 3, but for pseudo-classes and pseudo-elements of
+/// any name without an argument. A group holds something, each of it such a rule or group, and asks for a media query list that
+/// Media Queries 3, section 2, has, but for features of any name, or for a supports condition without functions (Conditional Rules
+/// 3, section 6). No declaration is `composes`, a logical property (CSS Logical 1, section 4), or `float`, `clear` or `resize` with a
+/// flow-relative keyword alone (sections 2.2 and 2.4). Takes no memory.
 pub fn is_target(sheet: &Sheet) -> bool
     ensures { result ≡ is_target sheet.now }
 {
-    sheet.items.as_slice().iter().all(is_old_rule)
+    are_old_items(sheet.items.as_slice())
 }

@@ -2,12 +2,13 @@ use Rattle.std.proofs.Common.{List, ◌≡◌, [], ◌∷◌, ◌++◌, Bool, ma
 use Rattle.std.specs.Prelude.{codes, flat_map}
 use Rattle.std.proofs.lemmas.List.{append-nil}
 use Rattle.selector_types.specs.Spelling.{list_text}
-use Rattle.css_rules.specs.SheetTexts.{block_text, printed_item}
-use Rattle.css_rules.specs.declared.sheet.Item.{Item}
-use Rattle.css_rules.specs.declared.sheet.Style.{Style}
+use Rattle.sheet_types.specs.SheetTexts.{block_text, condition_text, items_text, printed_item}
+use Rattle.sheet_types.specs.declared.sheet.Item.{Item}
+use Rattle.sheet_types.specs.declared.sheet.Group.{Group}
+use Rattle.sheet_types.specs.declared.sheet.Style.{Style}
 use Rattle.css_print.specs.Private.Printed.{holds_bytes}
 use Rattle.css_print.proofs.Fronts.{on_err, front_first, front_second, front_item}
-use Rattle.css_print.proofs.Printing.{held-block, rule-none, rule-some, text-block, text-style, text_among}
+use Rattle.css_print.proofs.Printing.{group-none, group-some, held-block, rule-none, rule-some, text-block, text-group, text-style, text_among}
 use Rattle.css_print.proofs.writer.+print.Goals as goal
 
 -- what was asked of the items of a rule is whether its block is printed
@@ -61,3 +62,42 @@ write_block-returns-in-len2-up-clause-ok t c = rw (text-block c.args.items.now c
 
 pub write_block-returns-in-len2-up-clause-err : goal.write_block-returns-in-len2-up-clause-err
 write_block-returns-in-len2-up-clause-err t c = rw (text-block c.args.items.now c.in-len2-up.len_at_least) c.write_items.ensures.err
+
+-- what was asked of the items of a group is whether its block is printed
+asked-of : (g : Group) (items : List Item) (answer : Bool) → answer ≡ holds_bytes (flat_map text_among items) → items ≡ g.items → holds_bytes (items_text g.items) ≡ answer
+asked-of g items answer is same = sym (is ∙ ap (λ all. holds_bytes (flat_map text_among all)) same)
+
+pub write_group-returns-then-is_any_printed-clause-ok : goal.write_group-returns-then-is_any_printed-clause-ok
+write_group-returns-then-is_any_printed-clause-ok t c =
+    let g : Group = c.args.group.now in
+    let some = asked-of g c.as_slice.result.now c.is_any_printed.result c.is_any_printed.ensures c.as_slice.ensures ∙ c.if-is_any_printed.true in
+    rw (text-group g ∙ group-some g.condition (items_text g.items) some) c.write_lines.ensures.ok
+
+pub write_group-returns-then-is_any_printed-clause-err : goal.write_group-returns-then-is_any_printed-clause-err
+write_group-returns-then-is_any_printed-clause-err t c =
+    let g : Group = c.args.group.now in
+    let some = asked-of g c.as_slice.result.now c.is_any_printed.result c.is_any_printed.ensures c.as_slice.ensures ∙ c.if-is_any_printed.true in
+    rw (text-group g ∙ group-some g.condition (items_text g.items) some) c.write_lines.ensures.err
+
+pub write_group-returns-clause-ok : goal.write_group-returns-clause-ok
+write_group-returns-clause-ok t c =
+    let g : Group = c.args.group.now in
+    let old = c.args.out.now in
+    let none = asked-of g c.as_slice.result.now c.is_any_printed.result c.is_any_printed.ensures c.as_slice.ensures ∙ c.if-is_any_printed.false in
+    sym (append-nil old) ∙ ap (λ text. old ++ text) (sym (text-group g ∙ group-none g.condition (items_text g.items) none))
+
+pub write_lines-returns-in_err-write_condition-clause-err : goal.write_lines-returns-in_err-write_condition-clause-err
+write_lines-returns-in_err-write_condition-clause-err t c =
+    let g : Group = c.args.group.now in
+    on_err c.from_residual.result (front_first c.args.out.now c.write_condition.new.out (condition_text g.condition) _ c.in_err-write_condition.ensures.err)
+
+pub write_lines-returns-in_err-write_items-clause-err : goal.write_lines-returns-in_err-write_items-clause-err
+write_lines-returns-in_err-write_items-clause-err t c =
+    let g : Group = c.args.group.now in
+    let opened = c.extend_from_slice.new.self in
+    let new = c.write_items.new.out in
+    let block = rw c.as_slice.ensures at c.in_err-write_items.ensures.err in
+    on_err c.from_residual-in_err-write_items.result
+    (front_second c.args.out.now c.write_condition.new.out new (condition_text g.condition) _ c.in_ok-write_condition.ensures.ok
+    (front_second c.write_condition.new.out opened new (codes "{\n") _ c.in_ok-extend_from_slice.ensures.ok
+    (front_first opened new (items_text g.items) (codes "}" ++ 10 ∷ []) block)))

@@ -1,5 +1,5 @@
 use Rattle.std.specs.Prelude.{codes}
-use Rattle.css_rules.specs.SheetTexts.{importance_text, printed_value}
+use Rattle.sheet_types.specs.SheetTexts.{importance_text, printed_value}
 use Rattle.css_tokens.specs.NameText.{name_text}
 use Rattle.css_print.proofs.Fronts.{on_err, on_err_map, front_first, front_second}
 use Rattle.css_print.proofs.writer.write_declaration.Goals as goal

@@ -1,5 +1,5 @@
 use Rattle.std.proofs.Common.{◌≡◌, ◌++◌, drop, sym, ap, subst}
-use Rattle.css_rules.specs.SheetTexts.{declaration_text, declarations_text, more_declarations}
+use Rattle.sheet_types.specs.SheetTexts.{declaration_text, declarations_text, more_declarations}
 use Rattle.css_tokens.specs.Appends.{AppendsFront}
 use Rattle.css_print.proofs.Fronts.{on_err, on_err_map, front_first, front_second, at_item, rest_whole}
 use Rattle.css_print.proofs.writer.write_declarations.Goals as goal

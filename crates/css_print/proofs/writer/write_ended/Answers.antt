@@ -1,7 +1,7 @@
 use Rattle.std.proofs.Common.{List, ℕ, ◌++◌}
 use Rattle.std.specs.Prelude.{codes}
-use Rattle.css_rules.specs.declared.sheet.Declaration.{Declaration}
-use Rattle.css_rules.specs.SheetTexts.{declaration_text}
+use Rattle.sheet_types.specs.declared.sheet.Declaration.{Declaration}
+use Rattle.sheet_types.specs.SheetTexts.{declaration_text}
 use Rattle.css_print.proofs.Fronts.{on_err, front_first, front_none, front_second, front_item}
 use Rattle.css_print.proofs.writer.write_ended.Goals as goal
 

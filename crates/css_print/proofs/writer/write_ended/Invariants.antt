@@ -1,5 +1,5 @@
 use Rattle.std.proofs.Common.{◌≡◌, ◌++◌, take}
-use Rattle.css_rules.specs.SheetTexts.{ended_declarations}
+use Rattle.sheet_types.specs.SheetTexts.{ended_declarations}
 use Rattle.css_print.proofs.writer.write_ended.Given as goal
 
 abbrev pub invariant-loop-declaration : goal.invariant-loop-declaration

@@ -1,4 +1,4 @@
-use Rattle.std.proofs.Common.{Bool, ◌&&◌, not, sym, ◌∙◌, ap}
+use Rattle.std.proofs.Common.{◌&&◌, not, sym, ◌∙◌, ap}
 use Rattle.prop_table.specs.LogicalProperties.{is_logical}
 use Rattle.target_check.proofs.declaration.is_old_property.Goals as goal
 

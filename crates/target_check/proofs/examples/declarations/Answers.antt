@@ -1,4 +1,4 @@
-use Rattle.std.proofs.Common.{arith, ◌≡◌, List, [], ◌∷◌, rules}
+use Rattle.std.proofs.Common.{arith, ◌≡◌, [], ◌∷◌, rules}
 use Rattle.std.proofs.lemmas.Str.{encode_ascii}
 use lib.Utf8.{encode}
 use Rattle.target_check.proofs.Computing.{computing}
