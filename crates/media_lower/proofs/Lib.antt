@@ -1,14 +1,3 @@
-pub mod SideEquations
-pub mod Variants
-pub mod BoolLemmas
-pub mod PlainLemmas
-pub mod ProductLemmas
-pub mod FactLemmas
-pub mod SideLemmas
-pub mod LoweredLemmas
-pub mod TargetLemmas
-pub mod ClauseTextLemmas
+pub mod MediaCases
+pub mod OldLists
 pub mod Computing
-pub mod CountLemmas
-pub mod ReadableLemmas
-pub mod ReadingLemmas

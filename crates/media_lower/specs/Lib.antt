@@ -1,8 +1,3 @@
-pub mod Clauses
-pub mod Targets
-pub mod Lowered
-pub mod Holding
-pub mod KnownRanges
-pub mod ClauseTexts
-pub mod Counts
+pub mod MediaItems
+pub mod MediaKeeps
 pub mod Samples

@@ -1,6 +1,0 @@
-use Rattle.std.proofs.Common.{◌≡◌, map, take}
-use Rattle.media_lower.specs.Clauses.{products, query_clauses}
-use Rattle.media_lower.proofs.clause_list.product_of_queries.Given as goal
-
-abbrev pub invariant-loop-query : goal.invariant-loop-query
-invariant-loop-query l = l.all.items ≡ products (map query_clauses (take l.query-index l.list))

@@ -1,7 +1,0 @@
-use Rattle.std.proofs.Common.{◌≡◌, map, length, take}
-use Rattle.media_lower.specs.Clauses.{products, query_clauses}
-use Rattle.media_lower.specs.Counts.{capped}
-use Rattle.media_lower.proofs.count.count_queries.Given as goal
-
-abbrev pub invariant-loop-query : goal.invariant-loop-query
-invariant-loop-query l = l.total ≡ capped (length (products (map query_clauses (take l.query-index l.list))))

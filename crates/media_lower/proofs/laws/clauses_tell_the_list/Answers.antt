@@ -1,5 +1,0 @@
-use Rattle.media_lower.proofs.SideLemmas.{list-clauses}
-use Rattle.media_lower.proofs.laws.clauses_tell_the_list.Goals as goal
-
-pub returns : goal.returns
-returns c = list-clauses

@@ -1,6 +1,0 @@
-use Rattle.media_lower.proofs.ReadableLemmas.{list-known}
-use Rattle.media_lower.proofs.ReadingLemmas.{read-known}
-use Rattle.media_lower.proofs.laws.ranges_that_are_read_are_known.Goals as goal
-
-pub returns : goal.returns
-returns c = record { read = read-known; readable = list-known }

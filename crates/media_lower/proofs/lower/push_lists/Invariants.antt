@@ -1,6 +1,0 @@
-use Rattle.std.proofs.Common.{◌≡◌, ◌++◌, map, take}
-use Rattle.media_lower.specs.Lowered.{clause_queries}
-use Rattle.media_lower.proofs.lower.push_lists.Given as goal
-
-abbrev pub invariant-loop-clause : goal.invariant-loop-clause
-invariant-loop-clause l = l.out ≡ l.initial.out ++ map clause_queries (take l.clause-index l.clauses)
