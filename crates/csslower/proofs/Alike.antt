@@ -1,11 +1,11 @@
 -- What is said of files that are alike holds of files of which the entry's has the same text.
 use Rattle.std.proofs.Common.{◌≡◌, ℕ, List, [], Option, Some, None, IfSome, subst, sym, ap, ◌∙◌}
 use Rattle.std.specs.Option.{unwrap_or}
-use Rattle.cascade_spec.specs.declared.finding.Finding.{Finding}
+use Rattle.css_places.specs.declared.finding.Finding.{Finding}
 use Rattle.cascade_spec.specs.Readings.{KeepsWinners}
-use Rattle.cascade_spec.specs.declared.finding.LimitKind.TheVariants.{L2}
+use Rattle.css_places.specs.declared.finding.LimitKind.{LimitKind}
 use Rattle.css_outside.specs.Names.{Names, Told, bytes_under}
-use Rattle.csslower.specs.Answers.{IsLong, IsFirst, IsFine, LimitFits, RefusalFits, WritingFits, IsFirstOfSources}
+use Rattle.csslower.specs.Answers.{IsLong, IsPassed, IsFirst, IsFine, LimitFits, RefusalFits, WritingFits, IsFirstOfSources}
 use Rattle.csslower.specs.Leaving.{WinnersFit}
 use Rattle.csslower.specs.Private.Loading.{alike}
 use Rattle.csslower.specs.Saying.{Said, SaysRefusal}
@@ -19,8 +19,11 @@ of_told None path source bytes P same read holds = tt
 of_told (Some files) path source bytes P same read holds = holds files (read ∙ ap (λ (t : List ℕ). Some t) (sym same))
 
 module _ (path source : List ℕ) (files : Names) (is : files path ≡ Some source) where
+  passed : (kind : LimitKind) → IsPassed path (Some source) kind → IsPassed path (files path) kind
+  passed kind h = subst (λ (found : Option (List ℕ)). IsPassed path found kind) (sym is) h
+
   pub limit : (answer : Status) → LimitFits path (alike source) answer → LimitFits path files answer
-  limit (Limit L2) h = subst IsLong (sym is) h
+  limit (Limit kind) h = passed kind h
   limit Done h = λ long. h (subst IsLong is long)
   limit (Refused finding) h = λ long. h (subst IsLong is long)
   limit WriteFault h = λ long. h (subst IsLong is long)
@@ -53,7 +56,7 @@ module _ (path source : List ℕ) (files : Names) (is : files path ≡ Some sour
   writing Memory h = tt
 
   pub first : (answer : Status) → IsFirstOfSources path (alike source) answer → IsFirstOfSources path files answer
-  first (Limit L2) h = subst IsLong (sym is) h
+  first (Limit kind) h = passed kind h
   first (Refused finding) h = ((λ long. h.0 (subst IsLong is long)), first_of finding h.1)
   first Done h = ((λ long. h.0 (subst IsLong is long)), fine h.1)
   first (Usage kind) h = h

@@ -13,17 +13,20 @@ use Rattle.css_rules.specs.declared.refusal.Cause.{Cause}
 use Rattle.css_rules.specs.declared.refusal.Cause.TheVariants as causes
 use Rattle.css_rules.specs.Refusals.{first_refusal, sooner_of, sooner}
 use Rattle.css_rules.specs.Sheets.{sheet_of, sheet_refusals}
-use Rattle.css_rules.specs.declared.sheet.Sheet.{Sheet}
+use Rattle.sheet_types.specs.declared.sheet.Sheet.{Sheet}
 use Rattle.findings.specs.Constructs.{sheet_findings}
 use Rattle.findings.specs.Firsts.{first_finding}
-use Rattle.cascade_spec.specs.declared.finding.Code.{Code}
-use Rattle.cascade_spec.specs.declared.finding.Code.TheVariants.{Syntax, Depth, Missing, Unbuilt}
-use Rattle.cascade_spec.specs.declared.finding.Finding.{Finding}
-use Rattle.cascade_spec.specs.declared.finding.LimitKind.TheVariants.{L2}
-use Rattle.csslower.specs.Answers.{IsLong, IsFirst, IsFine, IsFirstOfSources, First, HasFirst}
+use Rattle.findings.specs.Limits.{is_long, items_lists}
+use Rattle.std.specs.List.{list_any}
+use Rattle.css_places.specs.declared.finding.Code.{Code}
+use Rattle.css_places.specs.declared.finding.Code.TheVariants.{Syntax, Depth, Missing, Unbuilt}
+use Rattle.css_places.specs.declared.finding.Finding.{Finding}
+use Rattle.css_places.specs.declared.finding.LimitKind.{LimitKind}
+use Rattle.css_places.specs.declared.finding.LimitKind.TheVariants.{L2, L8}
+use Rattle.csslower.specs.Answers.{IsLong, IsPassed, IsFirst, IsFine, IsFirstOfSources, First, HasFirst}
 use Rattle.css_tokens.specs.Components.{HasComponents, HasTokens}
 use Rattle.sheet_reader.specs.Texts.{SpellsSheet}
-use Rattle.csslower.specs.Findings.{code_and_offset, IsAccepted, HasFinding}
+use Rattle.csslower.specs.Findings.{code_and_offset, IsAccepted, HasFinding, PassesLimit}
 use Rattle.csslower.specs.Words.{entry_of, is_scoped}
 use Rattle.csslower.specs.declared.status.Status.{Status}
 use Rattle.csslower.specs.declared.status.Status.TheVariants.{Done, Refused, Usage, ReadFault, WriteFault, Memory, Limit}
@@ -38,6 +41,8 @@ pub record AnswerLaws : Type 0 where
   pub named : (fs : List Finding) → first_finding fs ≡ None → fs ≡ []
   pub one : (bytes : List ℕ) (c d : Code) (o p : ℕ) → HasFinding bytes c o → HasFinding bytes d p → (c ≡ d) × (o ≡ p)
   pub either : (bytes : List ℕ) (c : Code) (o : ℕ) → IsAccepted bytes → HasFinding bytes c o → ⊥
+  pub within : (bytes : List ℕ) (kind : LimitKind) (c : Code) (o : ℕ) → PassesLimit bytes kind → HasFinding bytes c o → ⊥
+  pub accepted : (bytes : List ℕ) (kind : LimitKind) → IsAccepted bytes → PassesLimit bytes kind → ⊥
 
 -- the words in their places
 placed_from : ℕ → List Word → List Piece
@@ -66,9 +71,13 @@ some_refusal (r ∷ rs) = inr (named (first_refusal rs))
 abbrev HasSomeFinding : List ℕ → Type 0
 HasSomeFinding bytes = (code : Code) × (offset : ℕ) × HasFinding bytes code offset
 
+-- a text is accepted, or it passes a limit, or something stands against it
+abbrev IsJudged : List ℕ → Type 0
+IsJudged bytes = IsAccepted bytes ⊎ (PassesLimit bytes L8 ⊎ HasSomeFinding bytes)
+
 -- the answer that stands first about the sources, as it is about the entry's file
 abbrev IsFirstOfFile : List ℕ → Option (List ℕ) → Status → Type 0
-IsFirstOfFile path found (Limit L2) = IsLong found
+IsFirstOfFile path found (Limit kind) = IsPassed path found kind
 IsFirstOfFile path found (Refused finding) = (IsLong found → ⊥) × IsFirst path found finding
 IsFirstOfFile path found Done = (IsLong found → ⊥) × IsFine path found
 IsFirstOfFile path found (Usage kind) = ⊥
@@ -77,7 +86,7 @@ IsFirstOfFile path found WriteFault = ⊥
 IsFirstOfFile path found Memory = ⊥
 
 of_entry_file : (path : List ℕ) (files : Names) (answer : Status) → IsFirstOfFile path (files path) answer → IsFirstOfSources path files answer
-of_entry_file path files (Limit L2) h = h
+of_entry_file path files (Limit kind) h = h
 of_entry_file path files (Refused finding) h = h
 of_entry_file path files Done h = h
 of_entry_file path files (Usage kind) h = h
@@ -86,7 +95,7 @@ of_entry_file path files WriteFault h = h
 of_entry_file path files Memory h = h
 
 of_sources : (path : List ℕ) (files : Names) (answer : Status) → IsFirstOfSources path files answer → IsFirstOfFile path (files path) answer
-of_sources path files (Limit L2) h = h
+of_sources path files (Limit kind) h = h
 of_sources path files (Refused finding) h = h
 of_sources path files Done h = h
 of_sources path files (Usage kind) h = h
@@ -104,25 +113,31 @@ module _ (laws : AnswerLaws) where
   refused_by bytes cs has causes.Syntax at named = (Syntax, at, inr (inr (inl (cs, has, named))))
   refused_by bytes cs has causes.Unbuilt at named = (Unbuilt, at, inr (inr (inl (cs, has, named))))
 
+  -- a sheet in which all can be expressed is accepted, or it passes the limit of its media query lists
+  of_clean : (bytes : List ℕ) (sheet : Sheet) → SpellsSheet bytes sheet → sheet_findings 0 sheet ≡ [] → (long : Bool) → list_any is_long (items_lists sheet.items) ≡ long → IsJudged bytes
+  unfolding IsAccepted PassesLimit
+  of_clean bytes sheet spells none true is = inr (inl (sheet, spells, none, ap (λ long. if long then Some L8 else None) is))
+  of_clean bytes sheet spells none false is = inl (sheet, spells, none, ap (λ long. if long then Some L8 else None) is)
+
   -- a sheet is clean, or a finding in it is named
-  of_sheet : (bytes : List ℕ) (sheet : Sheet) → SpellsSheet bytes sheet → (first : Option Finding) → first_finding (sheet_findings 0 sheet) ≡ first → IsAccepted bytes ⊎ HasSomeFinding bytes
-  unfolding IsAccepted HasFinding
-  of_sheet bytes sheet spells None is = inl (sheet, spells, laws.named (sheet_findings 0 sheet) is)
-  of_sheet bytes sheet spells (Some f) is = inr (f.code, f.place.offset, inr (inr (inr (sheet, spells, ap (option_map code_and_offset) is))))
+  of_sheet : (bytes : List ℕ) (sheet : Sheet) → SpellsSheet bytes sheet → (first : Option Finding) → first_finding (sheet_findings 0 sheet) ≡ first → IsJudged bytes
+  unfolding HasFinding
+  of_sheet bytes sheet spells None is = of_clean bytes sheet spells (laws.named (sheet_findings 0 sheet) is) (list_any is_long (items_lists sheet.items)) refl
+  of_sheet bytes sheet spells (Some f) is = inr (inr (f.code, f.place.offset, inr (inr (inr (sheet, spells, ap (option_map code_and_offset) is)))))
 
   -- components have a sheet, or it is refused
-  of_reading : (bytes : List ℕ) (cs : List Component) → HasComponents bytes cs → sheet_refusals cs ≡ [] → (o : Option Sheet) → sheet_of cs ≡ o → IsAccepted bytes ⊎ HasSomeFinding bytes
+  of_reading : (bytes : List ℕ) (cs : List Component) → HasComponents bytes cs → sheet_refusals cs ≡ [] → (o : Option Sheet) → sheet_of cs ≡ o → IsJudged bytes
   of_reading bytes cs has none None is = absurd (laws.readable cs is none)
   of_reading bytes cs has none (Some sheet) is = of_sheet bytes sheet (cs, has, is) (first_finding (sheet_findings 0 sheet)) refl
 
-  of_components : (bytes : List ℕ) (cs : List Component) → HasComponents bytes cs → IsAccepted bytes ⊎ HasSomeFinding bytes
+  of_components : (bytes : List ℕ) (cs : List Component) → HasComponents bytes cs → IsJudged bytes
   of_components bytes cs has =
       elim (some_refusal (sheet_refusals cs)) [
         | inl none ↦ of_reading bytes cs has none (sheet_of cs) refl
-        | inr some ↦ inr (refused_by bytes cs has some.0.cause some.0.at some.1)
+        | inr some ↦ inr (inr (refused_by bytes cs has some.0.cause some.0.at some.1))
       ]
 
-  of_paired : (bytes : List ℕ) (ts : List Piece) → HasTokens bytes ts → IsPaired ts → IsAccepted bytes ⊎ HasSomeFinding bytes
+  of_paired : (bytes : List ℕ) (ts : List Piece) → HasTokens bytes ts → IsPaired ts → IsJudged bytes
   of_paired bytes ts has paired =
       let made = laws.components ts paired in
       of_components bytes made.0 (record { tokens = subst (HasTokens bytes) (sym made.1) has; formed = made.2; paired = subst IsPaired (sym made.1) paired })
@@ -133,23 +148,23 @@ module _ (laws : AnswerLaws) where
   of_fault bytes ts has (fault.Depth at) is = (Depth, at, inr (inl (ts, has, is)))
   of_fault bytes ts has fault.Memory is = absurd is
 
-  of_tokens : (bytes : List ℕ) (ts : List Piece) → HasTokens bytes ts → IsAccepted bytes ⊎ HasSomeFinding bytes
+  of_tokens : (bytes : List ℕ) (ts : List Piece) → HasTokens bytes ts → IsJudged bytes
   of_tokens bytes ts has =
       elim (laws.paired ts (length bytes)) [
         | inl paired ↦ of_paired bytes ts has paired
-        | inr fault ↦ inr (of_fault bytes ts has fault.0 fault.1)
+        | inr fault ↦ inr (inr (of_fault bytes ts has fault.0 fault.1))
       ]
 
-  of_words : (bytes : List ℕ) (ws : List Word) → Reads bytes ws → IsAccepted bytes ⊎ HasSomeFinding bytes
+  of_words : (bytes : List ℕ) (ws : List Word) → Reads bytes ws → IsJudged bytes
   of_words bytes ws reads = of_tokens bytes (placed_from (mark_length bytes) ws) (record { read = subst (Reads bytes) (sym (words_of_placed (mark_length bytes) ws)) reads; placed = placed_are_placed (mark_length bytes) ws })
 
-  -- a text is readable, or something stands against it
-  of_text : (bytes : List ℕ) → IsAccepted bytes ⊎ HasSomeFinding bytes
+  -- a text is readable, or it passes a limit, or something stands against it
+  of_text : (bytes : List ℕ) → IsJudged bytes
   unfolding HasFinding
   of_text bytes =
       elim (laws.read bytes) [
         | inl words ↦ of_words bytes words.0 words.1
-        | inr stop ↦ inr (Syntax, stop.0, inl (refl, stop.1))
+        | inr stop ↦ inr (inr (Syntax, stop.0, inl (refl, stop.1)))
       ]
 
   abbrev finding_at : ℕ → ℕ → Code → Finding
@@ -164,7 +179,8 @@ module _ (laws : AnswerLaws) where
   of_short path bytes false is short =
       elim (of_text bytes) [
         | inl fine ↦ (Done, (short, (is, fine)))
-        | inr some ↦ (Refused (finding_of some.1 some.0), (short, (refl, ((λ yes. absurd (cc (is, yes))), λ _. some.2))))
+        | inr (inl wide) ↦ (Limit L8, (short, (is, wide)))
+        | inr (inr some) ↦ (Refused (finding_of some.1 some.0), (short, (refl, ((λ yes. absurd (cc (is, yes))), λ _. some.2))))
       ]
 
   of_length : (path bytes : List ℕ) (long : Bool) → nat_lt 4194304 (length bytes) ≡ long → (answer : Status) × IsFirstOfFile path (Some bytes) answer
@@ -202,6 +218,22 @@ module _ (laws : AnswerLaws) where
   fine_or_finding path None a fine p = fine
   fine_or_finding path (Some bytes) a fine p = laws.either bytes a.code a.place.offset fine.1 (p.1.1 fine.0)
 
+  fine_or_passed : (path : List ℕ) (found : Option (List ℕ)) (kind : LimitKind) → (IsLong found → ⊥) → IsFine path found → IsPassed path found kind → ⊥
+  fine_or_passed path found L2 short fine long = short long
+  fine_or_passed path None L8 short fine wide = fine
+  fine_or_passed path (Some bytes) L8 short fine wide = laws.accepted bytes L8 fine.1 wide.1.1
+
+  finding_or_passed : (path : List ℕ) (found : Option (List ℕ)) (a : Finding) (kind : LimitKind) → (IsLong found → ⊥) → IsFirst path found a → IsPassed path found kind → ⊥
+  finding_or_passed path found a L2 short p long = short long
+  finding_or_passed path None a L8 short p wide = wide.1
+  finding_or_passed path (Some bytes) a L8 short p wide = laws.within bytes L8 a.code a.place.offset wide.1.1 (p.1.1 wide.1.0)
+
+  passed_one : (path : List ℕ) (found : Option (List ℕ)) (k l : LimitKind) → IsPassed path found k → IsPassed path found l → k ≡ l
+  passed_one path found L2 L2 p q = refl
+  passed_one path found L2 L8 p q = absurd (q.0 p)
+  passed_one path found L8 L2 p q = absurd (p.0 q)
+  passed_one path found L8 L8 p q = refl
+
   of_file_one : (path : List ℕ) (found : Option (List ℕ)) (a b : Status) → IsFirstOfFile path found a → IsFirstOfFile path found b → a ≡ b
   of_file_one path found (Usage k) b p q = absurd p
   of_file_one path found ReadFault b p q = absurd p
@@ -213,21 +245,21 @@ module _ (laws : AnswerLaws) where
   of_file_one path found Done Memory p q = absurd q
   of_file_one path found Done Done p q = refl
   of_file_one path found Done (Refused b) p q = absurd (fine_or_finding path found b p.1 q.1)
-  of_file_one path found Done (Limit L2) p q = absurd (p.0 q)
+  of_file_one path found Done (Limit kind) p q = absurd (fine_or_passed path found kind p.0 p.1 q)
   of_file_one path found (Refused a) (Usage k) p q = absurd q
   of_file_one path found (Refused a) ReadFault p q = absurd q
   of_file_one path found (Refused a) WriteFault p q = absurd q
   of_file_one path found (Refused a) Memory p q = absurd q
   of_file_one path found (Refused a) Done p q = absurd (fine_or_finding path found a q.1 p.1)
   of_file_one path found (Refused a) (Refused b) p q = ap Refused (stands_one path found (is_scoped path) refl a b p.1 q.1)
-  of_file_one path found (Refused a) (Limit L2) p q = absurd (p.0 q)
-  of_file_one path found (Limit L2) (Usage k) p q = absurd q
-  of_file_one path found (Limit L2) ReadFault p q = absurd q
-  of_file_one path found (Limit L2) WriteFault p q = absurd q
-  of_file_one path found (Limit L2) Memory p q = absurd q
-  of_file_one path found (Limit L2) Done p q = absurd (q.0 p)
-  of_file_one path found (Limit L2) (Refused b) p q = absurd (q.0 p)
-  of_file_one path found (Limit L2) (Limit L2) p q = refl
+  of_file_one path found (Refused a) (Limit kind) p q = absurd (finding_or_passed path found a kind p.0 p.1 q)
+  of_file_one path found (Limit kind) (Usage k) p q = absurd q
+  of_file_one path found (Limit kind) ReadFault p q = absurd q
+  of_file_one path found (Limit kind) WriteFault p q = absurd q
+  of_file_one path found (Limit kind) Memory p q = absurd q
+  of_file_one path found (Limit kind) Done p q = absurd (fine_or_passed path found kind q.0 q.1 p)
+  of_file_one path found (Limit kind) (Refused b) p q = absurd (finding_or_passed path found b kind q.0 q.1 p)
+  of_file_one path found (Limit kind) (Limit other) p q = ap Limit (passed_one path found kind other p q)
 
   first_one : (words : List (List ℕ)) (files : Names) (a b : Status) → First words files a → First words files b → a ≡ b
   first_one words files a b p q = of_entry (entry_of words) p q

@@ -7,3 +7,5 @@ mod Alike
 mod Usages
 mod TargetSheets
 mod TextFaults
+mod CheckFaults
+mod LimitsPassed

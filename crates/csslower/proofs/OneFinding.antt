@@ -1,5 +1,5 @@
--- At most one finding stands against a text, and none where the text is accepted.
-use Rattle.std.proofs.Common.{◌≡◌, ℕ, ◌+◌, List, [], ◌∷◌, Some, length, map, refl, ap, sym, ◌∙◌, inl, inr, subst, option_map, IsTrue}
+-- At most one finding stands against a text, and none where the text is accepted or passes a limit.
+use Rattle.std.proofs.Common.{◌≡◌, ℕ, ◌+◌, List, [], ◌∷◌, Some, None, length, map, refl, ap, sym, ◌∙◌, inl, inr, subst, option_map, IsTrue}
 use Rattle.css_tokens.specs.declared.component.Component.{Component}
 use Rattle.css_tokens.specs.declared.kind.Kind.{Kind}
 use Rattle.css_tokens.specs.declared.pairing.ComponentFault.{ComponentFault}
@@ -11,14 +11,16 @@ use Rattle.css_tokens.specs.Trees.{pieces_all, all_formed}
 use Rattle.css_rules.specs.declared.refusal.Refusal.{Refusal}
 use Rattle.css_rules.specs.Refusals.{first_refusal, syntax, unbuilt}
 use Rattle.css_rules.specs.Sheets.{sheet_of, sheet_refusals}
-use Rattle.css_rules.specs.declared.sheet.Sheet.{Sheet}
+use Rattle.sheet_types.specs.declared.sheet.Sheet.{Sheet}
 use Rattle.findings.specs.Constructs.{sheet_findings}
 use Rattle.findings.specs.Firsts.{first_finding}
-use Rattle.cascade_spec.specs.declared.finding.Code.{Code}
-use Rattle.cascade_spec.specs.declared.finding.Code.TheVariants.{Syntax, Depth, Missing, Unbuilt, X6, X7, X11, X22}
+use Rattle.findings.specs.Limits.{sheet_limit}
+use Rattle.css_places.specs.declared.finding.LimitKind.{LimitKind}
+use Rattle.css_places.specs.declared.finding.Code.{Code}
+use Rattle.css_places.specs.declared.finding.Code.TheVariants.{Syntax, Depth, Missing, Unbuilt, X6, X7, X11, X12, X16, X17, X22}
 use Rattle.css_tokens.specs.Components.{HasComponents, HasTokens}
 use Rattle.sheet_reader.specs.Texts.{SpellsSheet}
-use Rattle.csslower.specs.Findings.{IsUnpaired, IsRefused, IsFound, code_and_offset, HasFinding, IsAccepted}
+use Rattle.csslower.specs.Findings.{IsUnpaired, IsRefused, IsFound, code_and_offset, HasFinding, IsAccepted, PassesLimit}
 
 -- what the laws of tokens, brackets and components say
 pub record ReadingLaws : Type 0 where
@@ -67,18 +69,27 @@ refused_one cs Syntax Missing o p a b = absurd b
 refused_one cs Syntax X6 o p a b = absurd b
 refused_one cs Syntax X7 o p a b = absurd b
 refused_one cs Syntax X11 o p a b = absurd b
+refused_one cs Syntax X12 o p a b = absurd b
+refused_one cs Syntax X16 o p a b = absurd b
+refused_one cs Syntax X17 o p a b = absurd b
 refused_one cs Syntax X22 o p a b = absurd b
 refused_one cs Unbuilt Depth o p a b = absurd b
 refused_one cs Unbuilt Missing o p a b = absurd b
 refused_one cs Unbuilt X6 o p a b = absurd b
 refused_one cs Unbuilt X7 o p a b = absurd b
 refused_one cs Unbuilt X11 o p a b = absurd b
+refused_one cs Unbuilt X12 o p a b = absurd b
+refused_one cs Unbuilt X16 o p a b = absurd b
+refused_one cs Unbuilt X17 o p a b = absurd b
 refused_one cs Unbuilt X22 o p a b = absurd b
 refused_one cs Depth d o p a b = absurd a
 refused_one cs Missing d o p a b = absurd a
 refused_one cs X6 d o p a b = absurd a
 refused_one cs X7 d o p a b = absurd a
 refused_one cs X11 d o p a b = absurd a
+refused_one cs X12 d o p a b = absurd a
+refused_one cs X16 d o p a b = absurd a
+refused_one cs X17 d o p a b = absurd a
 refused_one cs X22 d o p a b = absurd a
 
 same_pair : (x y : Code × ℕ) → Some x ≡ Some y → x ≡ y
@@ -92,6 +103,9 @@ refused_none cs Missing o none a = a
 refused_none cs X6 o none a = a
 refused_none cs X7 o none a = a
 refused_none cs X11 o none a = a
+refused_none cs X12 o none a = a
+refused_none cs X16 o none a = a
+refused_none cs X17 o none a = a
 refused_none cs X22 o none a = a
 
 module _ (laws : ReadingLaws) (bytes : List ℕ) where
@@ -117,18 +131,27 @@ module _ (laws : ReadingLaws) (bytes : List ℕ) where
   unpaired_one ts Syntax X6 o p a b = absurd b
   unpaired_one ts Syntax X7 o p a b = absurd b
   unpaired_one ts Syntax X11 o p a b = absurd b
+  unpaired_one ts Syntax X12 o p a b = absurd b
+  unpaired_one ts Syntax X16 o p a b = absurd b
+  unpaired_one ts Syntax X17 o p a b = absurd b
   unpaired_one ts Syntax X22 o p a b = absurd b
   unpaired_one ts Depth Missing o p a b = absurd b
   unpaired_one ts Depth Unbuilt o p a b = absurd b
   unpaired_one ts Depth X6 o p a b = absurd b
   unpaired_one ts Depth X7 o p a b = absurd b
   unpaired_one ts Depth X11 o p a b = absurd b
+  unpaired_one ts Depth X12 o p a b = absurd b
+  unpaired_one ts Depth X16 o p a b = absurd b
+  unpaired_one ts Depth X17 o p a b = absurd b
   unpaired_one ts Depth X22 o p a b = absurd b
   unpaired_one ts Missing d o p a b = absurd a
   unpaired_one ts Unbuilt d o p a b = absurd a
   unpaired_one ts X6 d o p a b = absurd a
   unpaired_one ts X7 d o p a b = absurd a
   unpaired_one ts X11 d o p a b = absurd a
+  unpaired_one ts X12 d o p a b = absurd a
+  unpaired_one ts X16 d o p a b = absurd a
+  unpaired_one ts X17 d o p a b = absurd a
   unpaired_one ts X22 d o p a b = absurd a
 
   unpaired_none : (ts : List Piece) (c : Code) (o : ℕ) → IsPaired ts → IsUnpaired ts (length bytes) c o → ⊥
@@ -139,6 +162,9 @@ module _ (laws : ReadingLaws) (bytes : List ℕ) where
   unpaired_none ts X6 o p a = a
   unpaired_none ts X7 o p a = a
   unpaired_none ts X11 o p a = a
+  unpaired_none ts X12 o p a = a
+  unpaired_none ts X16 o p a = a
+  unpaired_none ts X17 o p a = a
   unpaired_none ts X22 o p a = a
 
   fault_or_components : (ts : List Piece) (cs : List Component) (c : Code) (o : ℕ) → HasTokens bytes ts → IsUnpaired ts (length bytes) c o → HasComponents bytes cs → ⊥
@@ -181,9 +207,22 @@ module _ (laws : ReadingLaws) (bytes : List ℕ) where
   finding_one c d o p (inr (inr (inr a))) (inr (inr (inl b))) = absurd (refusal_or_sheet b.0 a.0 d p b.1 b.2 a.1)
   finding_one c d o p (inr (inr (inr a))) (inr (inr (inr b))) = found_one a.0 b.0 c d o p (sheets_one a.0 b.0 a.1 b.1) a.2 b.2
 
+  -- nothing stands against a text that has a sheet in which all can be expressed
+  clean_none : (c : Code) (o : ℕ) (sheet : Sheet) → SpellsSheet bytes sheet → sheet_findings 0 sheet ≡ [] → HasFinding bytes c o → ⊥
+  unfolding HasFinding
+  clean_none c o sheet spells none (inl a) = stop_none (pieces_all spells.0) o spells.1.tokens a.1
+  clean_none c o sheet spells none (inr (inl a)) = fault_or_components a.0 spells.0 c o a.1 a.2 spells.1
+  clean_none c o sheet spells none (inr (inr (inl a))) = refusal_or_sheet a.0 sheet c o a.1 a.2 spells
+  clean_none c o sheet spells none (inr (inr (inr a))) = found_none sheet a.0 c o (sheets_one sheet a.0 spells a.1) none a.2
+
   pub finding_none : (c : Code) (o : ℕ) → IsAccepted bytes → HasFinding bytes c o → ⊥
-  unfolding HasFinding IsAccepted
-  finding_none c o r (inl a) = stop_none (pieces_all r.1.0) o r.1.1.tokens a.1
-  finding_none c o r (inr (inl a)) = fault_or_components a.0 r.1.0 c o a.1 a.2 r.1.1
-  finding_none c o r (inr (inr (inl a))) = refusal_or_sheet a.0 r.0 c o a.1 a.2 r.1
-  finding_none c o r (inr (inr (inr a))) = found_none r.0 a.0 c o (sheets_one r.0 a.0 r.1 a.1) r.2 a.2
+  unfolding IsAccepted
+  finding_none c o r h = clean_none c o r.0 r.1 r.2 h
+
+  pub finding_within : (kind : LimitKind) (c : Code) (o : ℕ) → PassesLimit bytes kind → HasFinding bytes c o → ⊥
+  unfolding PassesLimit
+  finding_within kind c o r h = clean_none c o r.0 r.1 r.2 h
+
+  pub limit_none : (kind : LimitKind) → IsAccepted bytes → PassesLimit bytes kind → ⊥
+  unfolding IsAccepted PassesLimit
+  limit_none kind r p = let limits : None ≡ Some kind = sym r.3 ∙ ap sheet_limit (sheets_one r.0 p.0 r.1 p.1) ∙ p.3 in cc limits

@@ -2,27 +2,26 @@
 use Rattle.std.proofs.Common.{◌≡◌, ℕ, List, [], ◌∷◌, ◌++◌, map, Bool, true, false, ◌&&◌, ◌||◌, refl, sym, ◌∙◌, ap, subst, IsTrue, Some}
 use Rattle.std.specs.List.{list_all, list_any, AllByRecursion}
 use Rattle.std.proofs.lemmas.List.{append-nil}
-use Rattle.std.proofs.lemmas.List.Elements.{filter_map-append}
 use Rattle.css_tokens.specs.declared.component.Component.{Component}
 use Rattle.selector_types.specs.Erased.{erased}
 use Rattle.selector_types.specs.PartsWithin.{list_parts}
-use Rattle.selector_types.specs.declared.selector.Part.{Part}
 use Rattle.selector_types.specs.declared.selector.Selector.{Selector}
-use Rattle.css_rules.specs.BareItems.{bared, bare_item, bare_items, bare_item-Plain, bare_item-Style, filled_item, filled_items, filled_item-Plain, filled_item-Style, rule_round}
+use Rattle.sheet_types.specs.BareItems.{bared, bare_item, bare_items, bare_item-Plain, bare_item-Style, filled_item, filled_items, filled_item-Plain, filled_item-Style, rule_round}
 use Rattle.css_rules.specs.PlainRules.{IsPlainRule, is_unled, none_waits}
 use Rattle.css_rules.specs.Printable.{all_whole}
-use Rattle.css_rules.specs.SheetTexts.{sheet_text}
-use Rattle.css_rules.specs.Sheets.{is_unbuilt, run_of, sheet_of}
-use Rattle.css_rules.specs.declared.sheet.Declaration.{Declaration}
-use Rattle.css_rules.specs.declared.sheet.Item.{Item}
-use Rattle.css_rules.specs.declared.sheet.Item as item
-use Rattle.css_rules.specs.declared.sheet.Item.TheOpen.{Style}
-use Rattle.css_rules.specs.declared.sheet.Item.TheVariants.{outs-Style, outs-Plain}
-use Rattle.css_rules.specs.declared.sheet.Sheet.{Sheet}
-use Rattle.css_rules.specs.declared.sheet.Style as style
+use Rattle.sheet_types.specs.SheetTexts.{sheet_text}
+use Rattle.css_rules.specs.Sheets.{is_unbuilt, sheet_of}
+use Rattle.sheet_types.specs.Runs.{run_of}
+use Rattle.sheet_types.specs.declared.sheet.Declaration.{Declaration}
+use Rattle.sheet_types.specs.declared.sheet.Item.{Item}
+use Rattle.sheet_types.specs.declared.sheet.Item as item
+use Rattle.sheet_types.specs.declared.sheet.Item.TheOpen.{Style}
+use Rattle.sheet_types.specs.declared.sheet.Item.TheVariants.{outs-Style}
+use Rattle.sheet_types.specs.declared.sheet.Sheet.{Sheet}
+use Rattle.sheet_types.specs.declared.sheet.Style as style
 use Rattle.cascade_spec.specs.Readings.{HasSheet, IsReadAgain}
-use Rattle.findings.specs.Constructs.{item_parts, items_parts, list_findings, part_finding, part_findings, parts-Style, sheet_findings}
-use Rattle.target_check.specs.Targets.{declares, is_old_declaration, is_old_rule, is_old_selector, is_run}
+use Rattle.findings.specs.Constructs.{found-Style, item_findings, items_findings, list_findings, sheet_findings}
+use Rattle.target_check.specs.Targets.{Age, age-Plain, age-Style, declares, is_old_declaration, is_old_item, is_old_selector, is_run}
 use Rattle.csslower.specs.TargetTexts.{IsTargetText}
 
 -- what the lower crates ensure
@@ -50,16 +49,6 @@ front-none (x ∷ xs) ys none = absurd (cc none)
 back-none : {X : Type 0} (xs ys : List X) → xs ++ ys ≡ [] → ys ≡ []
 back-none [] ys none = none
 back-none (x ∷ xs) ys none = absurd (cc none)
-
--- nothing that cannot be expressed stands in these parts
-abbrev Bare : List Part → Type 0
-Bare ps = part_findings 0 ps ≡ []
-
-bare-front : (ps qs : List Part) → Bare (ps ++ qs) → Bare ps
-bare-front ps qs none = front-none (part_findings 0 ps) (part_findings 0 qs) (sym (filter_map-append (part_finding 0) ps qs) ∙ none)
-
-bare-back : (ps qs : List Part) → Bare (ps ++ qs) → Bare qs
-bare-back ps qs none = back-none (part_findings 0 ps) (part_findings 0 qs) (sym (filter_map-append (part_finding 0) ps qs) ∙ none)
 
 -- Rules, places aside.
 
@@ -99,24 +88,24 @@ same-rule : (s t : style.Style) → item.Style s ≡ item.Style t → s ≡ t
 same-rule s t e = let laid : Style s ≡ Style t = sym (outs-Style s) ∙ ap item.out-Item e ∙ outs-Style t in cc laid
 
 module _ (laws : TargetLaws) where
-  rule-old : (s : style.Style) → list_all is_unled s.selectors ≡ true → none_waits (list_parts s.selectors) ≡ true → Bare (item_parts (item.Style s)) → list_all is_old_selector s.selectors ≡ true
-  rule-old s unled ready bare =
-      laws.old 0 s.selectors (bare-front (list_parts s.selectors) (items_parts s.items) (subst Bare (parts-Style s) bare)) unled ready
+  rule-old : (s : style.Style) → list_all is_unled s.selectors ≡ true → none_waits (list_parts s.selectors) ≡ true → item_findings 0 (item.Style s) ≡ [] → list_all is_old_selector s.selectors ≡ true
+  rule-old s unled ready none =
+      laws.old 0 s.selectors (front-none (list_findings 0 s.selectors) (items_findings 0 s.items) (sym (found-Style 0 s) ∙ none)) unled ready
 
-  item-old : (x : Item) → IsPlainRule x → Bare (item_parts x) → AllByRecursion IsOldBare (filled_item (bare_item x))
-  item-old x plain bare =
+  item-old : (x : Item) → IsPlainRule x → item_findings 0 x ≡ [] → AllByRecursion IsOldBare (filled_item (bare_item x))
+  item-old x plain none =
       let s = plain.rule in
       let ds = plain.declarations in
-      let old = rule-old s plain.unled plain.ready (subst (λ y. Bare (item_parts y)) plain.is bare) in
+      let old = rule-old s plain.unled plain.ready (subst (λ y. item_findings 0 y ≡ []) plain.is none) in
       let printed = ap (λ (y : Item). filled_item (bare_item y)) plain.is ∙ ap filled_item (bare-run s ds plain.run) ∙ filled-run (map erased s.selectors) (map bared ds) in
       subst (AllByRecursion IsOldBare) (sym printed) (round-old s.selectors ds old)
 
-  items-old : (xs : List Item) → AllByRecursion IsPlainRule xs → Bare (items_parts xs) → AllByRecursion IsOldBare (filled_items (bare_items xs))
-  items-old [] plain bare = tt
-  items-old (x ∷ xs) plain bare =
+  items-old : (xs : List Item) → AllByRecursion IsPlainRule xs → items_findings 0 xs ≡ [] → AllByRecursion IsOldBare (filled_items (bare_items xs))
+  items-old [] plain none = tt
+  items-old (x ∷ xs) plain none =
       each-append IsOldBare (filled_item (bare_item x)) (filled_items (bare_items xs))
-      (item-old x plain.0 (bare-front (item_parts x) (items_parts xs) bare))
-      (items-old xs plain.1 (bare-back (item_parts x) (items_parts xs) bare))
+      (item-old x plain.0 (front-none (item_findings 0 x) (items_findings 0 xs) none))
+      (items-old xs plain.1 (back-none (item_findings 0 x) (items_findings 0 xs) none))
 
   -- The rules that are read.
 
@@ -125,30 +114,31 @@ module _ (laws : TargetLaws) where
   declarations-old (d ∷ ds) built = both (is_old_declaration d) (list_all is_old_declaration ds) (laws.built d built.0) (declarations-old ds built.1)
 
   -- a rule that is such a one, places aside, has old selectors, and it is not empty
-  read-old : (s : style.Style) (ds : List Declaration) → s.items ≡ run_of ds → AllByRecursion (λ d. is_unbuilt d ≡ false) ds → (old : IsOldBare (bare_item (item.Style s))) → is_old_rule (Style s) ≡ true
-  read-old s ds is built old = at ds is built (sym (bare-run s ds is) ∙ old.is)
+  read-old : (s : style.Style) (ds : List Declaration) → s.items ≡ run_of ds → AllByRecursion (λ d. is_unbuilt d ≡ false) ds → (old : IsOldBare (bare_item (item.Style s))) → is_old_item (item.Style s) ≡ true
+  read-old s ds is built old = ap (λ (a : Age). a.old) (age-Style s) ∙ at ds is built (sym (bare-run s ds is) ∙ old.is)
     where
       at : (es : List Declaration) → s.items ≡ run_of es → AllByRecursion (λ d. is_unbuilt d ≡ false) es
           → item.Style (record { selectors = map erased s.selectors; items = run_of (map bared es); at = 0 }) ≡ item.Style (record { selectors = map erased old.list; items = item.Plain (old.first ∷ old.more) ∷ []; at = 0 })
-          → is_old_rule (Style s) ≡ true
+          → (list_all is_old_selector s.selectors && (list_all is_run s.items && list_any declares s.items)) ≡ true
       at [] none built same = absurd (cc (ap (λ (t : style.Style). t.items) (same-rule _ _ same)))
       at (d ∷ es) some built same =
           let lists : map erased s.selectors ≡ map erased old.list = ap (λ (t : style.Style). t.selectors) (same-rule _ _ same) in
+          let run = item.Plain (d ∷ es) in
           both (list_all is_old_selector s.selectors) _ (laws.alike s.selectors old.list lists ∙ old.old)
-          (ap (λ (xs : List Item). list_all (λ x. is_run (item.out-Item x)) xs && list_any (λ x. declares (item.out-Item x)) xs) some
-          ∙ both (is_run (item.out-Item (item.Plain (d ∷ es))) && true) (declares (item.out-Item (item.Plain (d ∷ es))) || false)
-          (ap (λ v. is_run v && true) (outs-Plain (d ∷ es)) ∙ both (list_all is_old_declaration (d ∷ es)) true (declarations-old (d ∷ es) built) refl)
-          (ap (λ v. declares v || false) (outs-Plain (d ∷ es))))
+          (ap (λ (xs : List Item). list_all is_run xs && list_any declares xs) some
+          ∙ both (is_run run && true) (declares run || false)
+          (both (is_run run) true (ap (λ (a : Age). a.run) (age-Plain (d ∷ es)) ∙ declarations-old (d ∷ es) built) refl)
+          (ap (λ (a : Age). a.declares || false) (age-Plain (d ∷ es))))
 
-  item-target : (x : Item) → IsPlainRule x → IsOldBare (bare_item x) → is_old_rule (item.out-Item x) ≡ true
+  item-target : (x : Item) → IsPlainRule x → IsOldBare (bare_item x) → is_old_item x ≡ true
   item-target x plain old =
-      ap (λ y. is_old_rule (item.out-Item y)) plain.is ∙ ap is_old_rule (outs-Style plain.rule)
+      ap is_old_item plain.is
       ∙ read-old plain.rule plain.declarations plain.run plain.built (subst (λ (y : Item). IsOldBare (bare_item y)) plain.is old)
 
-  items-target : (xs : List Item) → AllByRecursion IsPlainRule xs → AllByRecursion IsOldBare (bare_items xs) → list_all (λ x. is_old_rule (item.out-Item x)) xs ≡ true
+  items-target : (xs : List Item) → AllByRecursion IsPlainRule xs → AllByRecursion IsOldBare (bare_items xs) → list_all is_old_item xs ≡ true
   items-target [] plain old = refl
   items-target (x ∷ xs) plain old =
-      both (is_old_rule (item.out-Item x)) (list_all (λ x. is_old_rule (item.out-Item x)) xs) (item-target x plain.0 old.0) (items-target xs plain.1 old.1)
+      both (is_old_item x) (list_all is_old_item xs) (item-target x plain.0 old.0) (items-target xs plain.1 old.1)
 
   pub target-text : (source : List ℕ) (sheet : Sheet) → HasSheet source sheet → sheet_findings 0 sheet ≡ [] → IsTargetText (sheet_text sheet)
   target-text source sheet has none =

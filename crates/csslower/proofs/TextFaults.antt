@@ -1,6 +1,6 @@
 -- What stands first against a text that has no sheet is a finding of the text.
 use Rattle.std.proofs.Common.{ℕ, List, refl, inl, inr}
-use Rattle.cascade_spec.specs.declared.finding.Code.TheVariants as codes
+use Rattle.css_places.specs.declared.finding.Code.TheVariants as codes
 use Rattle.csslower.specs.Findings.{HasFinding}
 use Rattle.sheet_reader.specs.Texts.{IsFirstFault}
 use Rattle.sheet_reader.specs.declared.fault.SheetFault.TheVariants.{Syntax, Depth, Unbuilt}

@@ -1,12 +1,13 @@
 -- Which answer a file gets.
 use Rattle.std.specs.Prelude.{◌≡◌, ◌↔◌, ℕ, ◌<◌, List, length, IsTrue, false, Option, Some, None, MatchOption}
-use Rattle.cascade_spec.specs.declared.finding.Code.{Code}
-use Rattle.cascade_spec.specs.declared.finding.Code.TheVariants.{Missing, Unbuilt}
-use Rattle.cascade_spec.specs.declared.finding.Finding.{Finding}
-use Rattle.cascade_spec.specs.declared.finding.LimitKind.TheVariants.{L2}
+use Rattle.css_places.specs.declared.finding.Code.{Code}
+use Rattle.css_places.specs.declared.finding.Code.TheVariants.{Missing, Unbuilt}
+use Rattle.css_places.specs.declared.finding.Finding.{Finding}
+use Rattle.css_places.specs.declared.finding.LimitKind.{LimitKind}
+use Rattle.css_places.specs.declared.finding.LimitKind.TheVariants.{L2, L8}
 use Rattle.css_outside.specs.Names.{Names}
 use Rattle.csslower.specs.Words.{usage_of, entry_path, is_scoped}
-use Rattle.csslower.specs.Findings.{HasFinding, IsAccepted}
+use Rattle.csslower.specs.Findings.{HasFinding, IsAccepted, PassesLimit}
 use Rattle.csslower.specs.declared.status.Status.{Status}
 use Rattle.csslower.specs.declared.status.WordKind.{WordKind}
 use Rattle.csslower.specs.declared.status.Status.TheVariants.{Done, Refused, Usage, ReadFault, WriteFault, Memory, Limit}
@@ -41,13 +42,23 @@ abbrev pub IsFine : List ℕ → Option (List ℕ) → Type 0
 IsFine path None = ⊥
 IsFine path (Some bytes) = (is_scoped path ≡ false) × IsAccepted bytes
 
+-- the file is there, its names are not scoped, and its text passes the limit of media query lists
+abbrev pub IsWide : List ℕ → Option (List ℕ) → Type 0
+IsWide path None = ⊥
+IsWide path (Some bytes) = (is_scoped path ≡ false) × PassesLimit bytes L8
+
+-- the limit is passed first: the file is too long, or it is not and its text passes the limit
+abbrev pub IsPassed : List ℕ → Option (List ℕ) → LimitKind → Type 0
+IsPassed path found L2 = IsLong found
+IsPassed path found L8 = (IsLong found → ⊥) × IsWide path found
+
 -- the answer is that the words are no command, and why, exactly where they are none for this reason
 abbrev pub UsageFits : List (List ℕ) → Status → Type 0
 UsageFits words answer = (kind : WordKind) → (answer ≡ Usage kind) ↔ (usage_of words ≡ Some kind)
 
--- the answer is the limit where the entry's file is too long, and no answer that judges the sources where it is
+-- the answer is a limit where the entry's file passes it, and no answer that judges the sources where the file is too long
 abbrev pub LimitFits : List ℕ → Names → Status → Type 0
-LimitFits entry sources (Limit L2) = IsLong (sources entry)
+LimitFits entry sources (Limit kind) = IsPassed entry (sources entry) kind
 LimitFits entry sources Done = IsLong (sources entry) → ⊥
 LimitFits entry sources (Refused finding) = IsLong (sources entry) → ⊥
 LimitFits entry sources WriteFault = IsLong (sources entry) → ⊥
@@ -76,9 +87,9 @@ WritingFits entry sources Memory = Unit {0}
 WritingFits entry sources (Limit kind) = Unit {0}
 
 -- This answer stands first of those about the sources: that the entry's file is too long, else the finding that stands first
--- against it, else `Done`, which says that nothing stands against it.
+-- against it, else the limit that its text passes, else `Done`, which says that nothing stands against it.
 abbrev pub IsFirstOfSources : List ℕ → Names → Status → Type 0
-IsFirstOfSources entry sources (Limit L2) = IsLong (sources entry)
+IsFirstOfSources entry sources (Limit kind) = IsPassed entry (sources entry) kind
 IsFirstOfSources entry sources (Refused finding) = (IsLong (sources entry) → ⊥) × IsFirst entry (sources entry) finding
 IsFirstOfSources entry sources Done = (IsLong (sources entry) → ⊥) × IsFine entry (sources entry)
 IsFirstOfSources entry sources (Usage kind) = ⊥

@@ -1,6 +1,6 @@
 -- What stands against a file's text. What comes first of these is named: where reading stops, a bracket that is not
--- paired, what the sheet is refused for, what in it cannot be expressed.
-use Rattle.std.specs.Prelude.{ℕ, ◌≡◌, ◌⊎◌, List, [], length, Some}
+-- paired, what the sheet is refused for, what in it cannot be expressed. Where none of these does, a limit may be passed.
+use Rattle.std.specs.Prelude.{ℕ, ◌≡◌, ◌⊎◌, List, [], length, Some, None}
 use Rattle.std.specs.Option.{option_map}
 use Rattle.css_tokens.specs.declared.component.Component.{Component}
 use Rattle.css_tokens.specs.declared.pairing.ComponentFault.TheVariants as fault
@@ -10,13 +10,15 @@ use Rattle.css_tokens.specs.Piece.{Piece}
 use Rattle.css_tokens.specs.Tokens.{StopsAt}
 use Rattle.css_rules.specs.Refusals.{first_refusal, syntax, unbuilt}
 use Rattle.css_rules.specs.Sheets.{sheet_refusals}
-use Rattle.css_rules.specs.declared.sheet.Sheet.{Sheet}
+use Rattle.sheet_types.specs.declared.sheet.Sheet.{Sheet}
 use Rattle.sheet_reader.specs.Texts.{SpellsSheet}
 use Rattle.findings.specs.Constructs.{sheet_findings}
 use Rattle.findings.specs.Firsts.{first_finding}
-use Rattle.cascade_spec.specs.declared.finding.Code.{Code}
-use Rattle.cascade_spec.specs.declared.finding.Finding.{Finding}
-use Rattle.cascade_spec.specs.declared.finding.Code.TheVariants.{Syntax, Depth, Missing, Unbuilt, X6, X7, X11, X22}
+use Rattle.findings.specs.Limits.{sheet_limit}
+use Rattle.css_places.specs.declared.finding.Code.{Code}
+use Rattle.css_places.specs.declared.finding.Finding.{Finding}
+use Rattle.css_places.specs.declared.finding.LimitKind.{LimitKind}
+use Rattle.css_places.specs.declared.finding.Code.TheVariants.{Syntax, Depth, Missing, Unbuilt, X6, X7, X11, X12, X16, X17, X22}
 
 -- no token that is read begins there, or no text may hold what stands there
 abbrev pub HasStop : List ℕ → Code → ℕ → Type 0
@@ -31,6 +33,9 @@ IsUnpaired tokens end Unbuilt offset = ⊥
 IsUnpaired tokens end X6 offset = ⊥
 IsUnpaired tokens end X7 offset = ⊥
 IsUnpaired tokens end X11 offset = ⊥
+IsUnpaired tokens end X12 offset = ⊥
+IsUnpaired tokens end X16 offset = ⊥
+IsUnpaired tokens end X17 offset = ⊥
 IsUnpaired tokens end X22 offset = ⊥
 
 -- the text has tokens, and their brackets have a fault of this cause at this place
@@ -46,6 +51,9 @@ IsRefused components Missing offset = ⊥
 IsRefused components X6 offset = ⊥
 IsRefused components X7 offset = ⊥
 IsRefused components X11 offset = ⊥
+IsRefused components X12 offset = ⊥
+IsRefused components X16 offset = ⊥
+IsRefused components X17 offset = ⊥
 IsRefused components X22 offset = ⊥
 
 -- the text has component values, and the sheet of them is refused at this place, for this cause
@@ -68,6 +76,10 @@ HasConstruct bytes code offset = (sheet : Sheet) × SpellsSheet bytes sheet × I
 unfoldable pub HasFinding : List ℕ → Code → ℕ → Type 0
 HasFinding bytes code offset = HasStop bytes code offset ⊎ (HasBracketFault bytes code offset ⊎ (HasRefusal bytes code offset ⊎ HasConstruct bytes code offset))
 
--- nothing stands against the text: it reads as a sheet in which all can be expressed
+-- the text has a sheet in which all can be expressed, and which passes this limit
+unfoldable pub PassesLimit : List ℕ → LimitKind → Type 0
+PassesLimit bytes kind = (sheet : Sheet) × SpellsSheet bytes sheet × (sheet_findings 0 sheet ≡ []) × (sheet_limit sheet ≡ Some kind)
+
+-- nothing stands against the text: it reads as a sheet in which all can be expressed, and which passes no limit
 unfoldable pub IsAccepted : List ℕ → Type 0
-IsAccepted bytes = (sheet : Sheet) × SpellsSheet bytes sheet × (sheet_findings 0 sheet ≡ [])
+IsAccepted bytes = (sheet : Sheet) × SpellsSheet bytes sheet × (sheet_findings 0 sheet ≡ []) × (sheet_limit sheet ≡ None)

@@ -1,10 +1,12 @@
 -- The lines of messages, each ended by LF.
 use Rattle.std.specs.Prelude.{ℕ, List, [], ◌∷◌, ◌++◌, codes}
 use Rattle.std.specs.Fmt.{decimal}
-use Rattle.cascade_spec.specs.Lines.{line_of, column_of}
-use Rattle.cascade_spec.specs.declared.finding.Code.{Code}
-use Rattle.cascade_spec.specs.declared.finding.Code.TheVariants.{Syntax, Depth, Missing, Unbuilt, X6, X7, X11, X22}
-use Rattle.cascade_spec.specs.declared.finding.Finding.{Finding}
+use Rattle.css_places.specs.Lines.{line_of, column_of}
+use Rattle.css_places.specs.declared.finding.Code.{Code}
+use Rattle.css_places.specs.declared.finding.Code.TheVariants.{Syntax, Depth, Missing, Unbuilt, X6, X7, X11, X12, X16, X17, X22}
+use Rattle.css_places.specs.declared.finding.Finding.{Finding}
+use Rattle.css_places.specs.declared.finding.LimitKind.{LimitKind}
+use Rattle.css_places.specs.declared.finding.LimitKind.TheVariants.{L2, L8}
 
 -- the end of a line
 abbrev pub line_end : List ℕ
@@ -19,6 +21,9 @@ code_text Unbuilt = codes "Unbuilt not built yet"
 code_text X6 = codes "X6 :where"
 code_text X7 = codes "X7 :not of other than one simple selector"
 code_text X11 = codes "X11 functional pseudo"
+code_text X12 = codes "X12 at-rule"
+code_text X16 = codes "X16 unknown feature under not"
+code_text X17 = codes "X17 supports function"
 code_text X22 = codes "X22 attribute flag"
 
 -- a line and a column, counted from 1, where a text is cut into lines by LF
@@ -45,6 +50,7 @@ unwritten_line name = codes "csslower: cannot write " ++ name ++ line_end
 abbrev pub memory_line : List ℕ
 memory_line = codes "csslower: out of memory" ++ line_end
 
--- the line for a file that is too long
-abbrev pub limit_line : List ℕ
-limit_line = codes "csslower: limit L2 passed" ++ line_end
+-- the line for a limit that is passed
+abbrev pub limit_line : LimitKind → List ℕ
+limit_line L2 = codes "csslower: limit L2 passed" ++ line_end
+limit_line L8 = codes "csslower: limit L8 passed" ++ line_end

@@ -1,6 +1,6 @@
 -- What standard error gets, by the answer of a run.
 use Rattle.std.specs.Prelude.{◌≡◌, ℕ, ◌≤◌, ◌⊎◌, List, ◌++◌, length, Option, IfSome}
-use Rattle.cascade_spec.specs.declared.finding.Finding.{Finding}
+use Rattle.css_places.specs.declared.finding.Finding.{Finding}
 use Rattle.css_outside.specs.Names.{Names, bytes_under}
 use Rattle.css_outside.specs.Putting.{message}
 use Rattle.csslower.specs.Lines.{refusal_line, usage_line, unread_line, unwritten_line, memory_line, limit_line}
@@ -40,4 +40,4 @@ Said name entry sources failed (Usage kind) before now = Says usage_line failed 
 Said name entry sources failed ReadFault before now = Says (unread_line entry) failed before now
 Said name entry sources failed WriteFault before now = Says (unwritten_line name) failed before now
 Said name entry sources failed Memory before now = Says memory_line failed before now
-Said name entry sources failed (Limit kind) before now = Says limit_line failed before now
+Said name entry sources failed (Limit kind) before now = Says (limit_line kind) failed before now

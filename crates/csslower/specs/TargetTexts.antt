@@ -1,7 +1,7 @@
 -- What it is for a text to be one that older browsers read.
 use Rattle.std.specs.Prelude.{ℕ, List, IsTrue}
 use Rattle.cascade_spec.specs.Readings.{HasSheet}
-use Rattle.css_rules.specs.declared.sheet.Sheet.{Sheet}
+use Rattle.sheet_types.specs.declared.sheet.Sheet.{Sheet}
 use Rattle.target_check.specs.Targets.{is_target}
 
 -- The text reads as a sheet, and each sheet that it reads as is a target sheet: they differ in places alone.

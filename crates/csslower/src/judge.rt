@@ -11,6 +11,7 @@ ghost use Rattle.csslower.specs.Lines.{memory_line};
 ghost use Rattle.csslower.specs.Saying.{Said, Says};
 ghost use Rattle.csslower.specs.Writing.{standard, SameOutputs};
 
+use crate::exceed::exceed;
 use crate::one_file::rewrite;
 use crate::put_text::put_text;
 use crate::refuse::refuse;
@@ -18,8 +19,8 @@ use crate::say::say;
 use crate::status::Status;
 use crate::text_fault::TextFault;
 use crate::words::is_scoped;
-use cascade_spec::{Code, Finding, Place};
 use css_outside::Outbox;
+use css_places::{Code, Finding, Place};
 use std::alloc::Global;
 
 // Writes the file of this path and text again, or refuses it.
@@ -47,6 +48,7 @@ pub(crate) fn judge<O: Outbox>(alloc: Global, path: &str, source: &[u8], out: &m
         Err(TextFault::Finding { code, offset }) => {
             refuse(alloc, path, source, finding_at(offset, code), out)
         }
+        Err(TextFault::Limit(kind)) => exceed(out, kind),
         Err(TextFault::Memory) => lack(out),
     }
 }

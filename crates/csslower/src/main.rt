@@ -4,6 +4,7 @@
 #![tactic(auto)]
 
 mod args;
+mod exceed;
 mod judge;
 mod laws;
 mod load;

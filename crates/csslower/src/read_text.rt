@@ -1,12 +1,13 @@
-ghost use Rattle.std.specs.Prelude.{◌≡◌, ◌≤◌, [], length, IfOk, IfErr};
+ghost use Rattle.std.specs.Prelude.{◌≡◌, ◌≤◌, [], length, None, IfOk, IfErr};
 ghost use Rattle.csslower.specs.Private.TextFaults.{IsTextFault};
 ghost use Rattle.findings.specs.Constructs.{sheet_findings};
+ghost use Rattle.findings.specs.Limits.{sheet_limit};
 ghost use Rattle.sheet_reader.specs.Texts.{SpellsSheet};
 
 use crate::text_fault::TextFault;
-use cascade_spec::Code;
+use css_places::Code;
 use css_rules::Sheet;
-use findings::{Clean, check};
+use findings::{CheckFault, Clean, check, the_first_finding_is_named};
 use sheet_reader::{SheetFault, read_text};
 use std::alloc::Global;
 
@@ -35,8 +36,8 @@ pub(crate) fn text_sheet<'a>(alloc: Global, text: &'a [u8]) -> Result<Sheet<'a>,
     }
 }
 
-/// The sheet of a file's text, where all in it can be expressed.
-#[tactic(auto, unfolding(crate::specs::Findings::HasFinding))]
+/// The sheet of a file's text, where all in it can be expressed and it passes no limit.
+#[tactic(auto, unfolding(crate::specs::Findings::HasFinding, crate::specs::Findings::PassesLimit))]
 pub(crate) fn text_clean<'s, 'a>(
     text: &[u8],
     sheet: &'s Sheet<'a>,
@@ -44,13 +45,16 @@ pub(crate) fn text_clean<'s, 'a>(
     requires spelled { SpellsSheet text.now sheet.now }
     ensures clean { IfOk result (λ clean. clean ≡ sheet.now) }
     ensures nothing { IfOk result (λ _. sheet_findings 0 sheet.now ≡ []) }
+    ensures within { IfOk result (λ _. sheet_limit sheet.now ≡ None) }
     ensures refused { IfErr result (λ fault. IsTextFault text.now fault) }
 {
+    the_first_finding_is_named();
     match check(sheet) {
         Ok(clean) => Ok(clean),
-        Err(finding) => Err(TextFault::Finding {
+        Err(CheckFault::Finding(finding)) => Err(TextFault::Finding {
             code: finding.code,
             offset: finding.place.offset,
         }),
+        Err(CheckFault::Limit(kind)) => Err(TextFault::Limit(kind)),
     }
 }

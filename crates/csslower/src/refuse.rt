@@ -7,8 +7,8 @@ ghost use Rattle.csslower.specs.Writing.{SameOutputs};
 
 use crate::say::say;
 use crate::status::Status;
-use cascade_spec::{Code, Finding, line_column};
 use css_outside::Outbox;
+use css_places::{Code, Finding, line_column};
 use css_tokens::OutOfMemory;
 use std::alloc::Global;
 
@@ -61,6 +61,9 @@ fn code_text(code: Code) -> &'static str
         Code::X6 => "X6 :where",
         Code::X7 => "X7 :not of other than one simple selector",
         Code::X11 => "X11 functional pseudo",
+        Code::X12 => "X12 at-rule",
+        Code::X16 => "X16 unknown feature under not",
+        Code::X17 => "X17 supports function",
         Code::X22 => "X22 attribute flag",
     }
 }

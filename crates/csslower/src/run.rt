@@ -8,6 +8,7 @@ ghost use Rattle.csslower.specs.Saying.{Said};
 ghost use Rattle.csslower.specs.Words.{entry_path, sources_of, stylesheet_name};
 ghost use Rattle.csslower.specs.Writing.{standard};
 
+use crate::exceed::exceed;
 use crate::judge::{finding_at, judge, lack};
 use crate::laws::first_answer;
 use crate::load::{Load, read_whole};
@@ -15,8 +16,8 @@ use crate::refuse::refuse;
 use crate::say::{say, say_unread};
 use crate::status::{Status, WordKind};
 use crate::words::entry;
-use cascade_spec::{Code, LimitKind};
 use css_outside::{Files, Outbox};
+use css_places::{Code, LimitKind};
 use std::alloc::Global;
 use work_pool::Gate;
 
@@ -81,10 +82,7 @@ fn run_entry<F: Files, O: Outbox>(alloc: Global, path: &str, files: &mut F, out:
 {
     match read_whole(alloc, path, files) {
         Load::Whole(source) => judge(alloc, path, source.as_slice(), out),
-        Load::Long => {
-            say(out, "csslower: limit L2 passed\n");
-            Status::Limit(LimitKind::L2)
-        }
+        Load::Long => exceed(out, LimitKind::L2),
         Load::Missing => refuse(alloc, path, &[], finding_at(0, Code::Missing), out),
         Load::Failed => {
             say_unread(out, path);

@@ -1,7 +1,7 @@
 ghost use Rattle.std.specs.Prelude.{◌≡◌};
 ghost use Rattle.csslower.specs.Answers.{number_of};
 
-use cascade_spec::{Finding, LimitKind};
+use css_places::{Finding, LimitKind};
 
 /// How a run ended.
 #[derive(Clone, Copy, Debug, PartialEq, Eq)]

@@ -1,7 +1,7 @@
 //! A law about the definitions of this crate, the contract of a function that does nothing.
 ghost use Rattle.cascade_spec.specs.Readings.{HasSheet};
-ghost use Rattle.css_rules.specs.SheetTexts.{sheet_text};
-ghost use Rattle.css_rules.specs.declared.sheet.Sheet.{Sheet};
+ghost use Rattle.sheet_types.specs.SheetTexts.{sheet_text};
+ghost use Rattle.sheet_types.specs.declared.sheet.Sheet.{Sheet};
 ghost use Rattle.csslower.specs.TargetTexts.{IsTargetText};
 ghost use Rattle.findings.specs.Constructs.{sheet_findings};
 ghost use Rattle.std.specs.Prelude.{◌≡◌, [], ℕ, List};

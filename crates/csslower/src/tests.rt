@@ -5,8 +5,8 @@ mod stingy;
 
 use crate::run::run;
 use crate::status::{Status, WordKind};
-use cascade_spec::{Code, Finding, LimitKind, Place};
 use css_outside::{MemoryFiles, MemoryOutbox};
+use css_places::{Code, Finding, LimitKind, Place};
 use css_tokens::{List, Text};
 use std::alloc::Global;
 use std::test::Fail;

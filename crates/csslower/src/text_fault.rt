@@ -1,12 +1,15 @@
 ghost use Rattle.std.specs.Prelude.{◌≡◌};
 
-use cascade_spec::Code;
+use css_places::{Code, LimitKind};
 use css_tokens::OutOfMemory;
 
-/// Why a file's text is refused, with its place in bytes.
+/// Why a file's text is refused.
 #[derive(Debug, Drop)]
 pub enum TextFault {
+    /// This stands against it, at this place in bytes.
     Finding { code: Code, offset: u32 },
+    /// It passes this limit.
+    Limit(LimitKind),
     Memory,
 }
 

@@ -9,8 +9,8 @@ use Rattle.std.proofs.lemmas.List.Sums.{fold-append}
 use Rattle.std.proofs.lemmas.List.Elements.{filter_map-append}
 use Rattle.selector_types.specs.PartsFound.{parts-Class, parts-Id, parts-Attribute, parts-Pseudo, parts-Not, parts-Is, parts-Where, parts-Parent, parts-Local, parts-Global, parts-Foreign, parts-Compound, parts-Selector}
 use Rattle.selector_types.specs.declared.selector.Part as part
-use Rattle.cascade_spec.specs.declared.finding.Finding.{Finding}
-use Rattle.findings.specs.Constructs.{part_finding, part_findings, parts-Plain, parts-Style}
+use Rattle.css_places.specs.declared.finding.Finding.{Finding}
+use Rattle.findings.specs.Constructs.{found-Plain, found-Style, found-Group, found-Passed, found-Other, part_finding, part_findings}
 use Rattle.findings.specs.Firsts.{first_from, first_finding, leads, sooner}
 
 -- what comes first of parts one after the other
@@ -36,9 +36,29 @@ first-next file best g xs i x within is =
 
 pub ruleset simple_parts = (parts-Class, parts-Id, parts-Attribute, parts-Pseudo, parts-Not, parts-Is, parts-Where, parts-Parent, parts-Local, parts-Global, parts-Foreign)
 
-pub ruleset joined = (first-append, parts-Compound, parts-Selector, parts-Style)
+pub ruleset joined = (first-append, parts-Compound, parts-Selector)
 
-pub ruleset item_parts_of = (parts-Plain, parts-Style)
+-- what stands in each kind of item
+pub ruleset found = (found-Plain, found-Style, found-Group, found-Passed, found-Other)
+
+-- what comes first of findings one after the other
+pub found-append : (best : Option Finding) (fs gs : List Finding) → first_from best (fs ++ gs) ≡ first_from (first_from best fs) gs
+found-append best fs gs = fold-append sooner best fs gs
+
+-- what comes first of what stands in one item more
+pub found-next : {X : Type 0} (best : Option Finding) (g : X → List Finding) (xs : List X) (i : ℕ) (x : X) → i < length xs → x ≡ get_or xs i x → first_from best (flat_map g (take (i + 1) xs)) ≡ first_from (first_from best (flat_map g (take i xs))) (g x)
+found-next best g xs i x within is =
+    ap (first_from best) taken ∙ found-append best (flat_map g (take i xs)) (g x)
+  where
+    one-more : i + 1 ≡ suc i
+    one-more = omega arith
+
+    taken : flat_map g (take (i + 1) xs) ≡ flat_map g (take i xs) ++ g x
+    taken =
+        ap (λ n. flat_map g (take n xs)) one-more
+        ∙ ap (flat_map g) (take-suc xs i x within ∙ ap (λ y. take i xs ++ y ∷ []) (sym is))
+        ∙ flat_map-append g (take i xs) (x ∷ [])
+        ∙ ap (λ fs. flat_map g (take i xs) ++ fs) (append-nil (g x))
 
 -- of findings that were found or stand behind, one is named
 found-some : (f : Finding) (fs : List Finding) → (best : Finding) × (first_from (Some f) fs ≡ Some best)

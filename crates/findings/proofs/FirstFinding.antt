@@ -3,7 +3,7 @@ use Rattle.std.proofs.Common.{◌≡◌, ℕ, zero, suc, length, ◌<◌, List, 
 use Rattle.std.specs.List.{AllByRecursion, Contains}
 use Rattle.std.proofs.lemmas.Bool.{false≢true}
 use Rattle.std.proofs.lemmas.Bool.Decides.{nat_tests}
-use Rattle.cascade_spec.specs.declared.finding.Finding.{Finding}
+use Rattle.css_places.specs.declared.finding.Finding.{Finding}
 use Rattle.findings.specs.Firsts.{code_number, first_finding, first_from, leads}
 
 -- The order is total and transitive.

@@ -1,5 +1,8 @@
 pub mod Opened
 pub mod Finding
+pub mod Conditions
+pub mod YoungFeatures
+pub mod Lists
 pub mod FirstFinding
 pub mod Whole
 pub mod Old

@@ -22,8 +22,8 @@ use Rattle.selector_types.specs.PartsWithin.{simple_parts, compound_parts, selec
 use Rattle.selector_types.specs.SelectorFold.{simple_of, compound_of}
 use Rattle.selector_types.specs.SelectorInduction.{Cases, by_lists}
 use Rattle.css_rules.specs.PlainRules.{is_unled, is_waiting, is_waiting_part, none_waits, opens_waiting}
-use Rattle.cascade_spec.specs.declared.finding.Code.{Code}
-use Rattle.cascade_spec.specs.declared.finding.Code.TheVariants.{X6, X7, X11}
+use Rattle.css_places.specs.declared.finding.Code.{Code}
+use Rattle.css_places.specs.declared.finding.Code.TheVariants.{X6, X7, X11}
 use Rattle.target_check.specs.Targets.{is_old_opened, is_old_part, is_old_selector, is_old_simple}
 use Rattle.findings.specs.Constructs.{code_of, code_opened, list_findings}
 use Rattle.findings.proofs.Whole.{Bare, bare-back, bare-front, both, uncoded, unflagged}

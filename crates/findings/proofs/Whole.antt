@@ -18,15 +18,22 @@ use Rattle.selector_types.specs.PartsWithin.{simple_parts, compound_parts, selec
 use Rattle.selector_types.specs.ReadableSelectors.{writable, is_writable_simple, is_writable_compound, is_writable_selector, is_writable_list}
 use Rattle.selector_types.specs.SelectorFold.{made_part, made_link, simple_of, compound_of, folded-Class, folded-Id, folded-Attribute, folded-Pseudo, folded-Not, folded-Is, folded-Where, folded-Parent, folded-Local, folded-Global, folded-Compound, folded-Selector}
 use Rattle.selector_types.specs.SelectorInduction.{Cases, by_lists}
-use Rattle.css_rules.specs.declared.sheet.Declaration.{Declaration}
-use Rattle.css_rules.specs.declared.sheet.Item.{Item}
-use Rattle.css_rules.specs.declared.sheet.Sheet.{Sheet}
-use Rattle.css_rules.specs.ItemFold.{folded-Plain, folded-Style}
-use Rattle.css_rules.specs.ItemInduction as items
-use Rattle.css_rules.specs.Leaves.{Leaf, OfDeclaration, all_leaves, leafing, leaves, rule_leaves}
-use Rattle.css_rules.specs.Printable.{all_whole, is_whole}
-use Rattle.cascade_spec.specs.declared.finding.Code.{Code}
-use Rattle.findings.specs.Constructs.{code_of, part_finding, part_findings, item_parts, items_parts, sheet_findings, parts-Style}
+use Rattle.sheet_types.specs.declared.sheet.Declaration.{Declaration}
+use Rattle.sheet_types.specs.declared.sheet.Item.{Item}
+use Rattle.sheet_types.specs.declared.sheet.Sheet.{Sheet}
+use Rattle.sheet_types.specs.ItemFold.{folded-Plain, folded-Style, folded-Group, folded-Passed, folded-Other}
+use Rattle.sheet_types.specs.ItemInduction as items
+use Rattle.sheet_types.specs.Leaves.{Leaf, OfDeclaration, all_leaves, group_leaves, leafing, leaves, rule_leaves}
+use Rattle.sheet_types.specs.declared.sheet.GroupCondition.{GroupCondition}
+use Rattle.sheet_types.specs.declared.sheet.GroupCondition.TheVariants.{Media, Supports as Supported}
+use Rattle.media_spelling.specs.SupportsAgain.{functionless, has_no_function}
+use Rattle.media_spelling.specs.SupportsFold as supports_fold
+use Rattle.media_spelling.specs.SupportsInduction as supports_induction
+use Rattle.media_spelling.specs.declared.supports.Supports.{Supports}
+use Rattle.css_rules.specs.Printable.{all_whole, is_whole, is_whole_condition}
+use Rattle.css_places.specs.declared.finding.Code.{Code}
+use Rattle.findings.specs.Constructs.{code_of, condition_findings, found-Group, found-Style, item_findings, items_findings, list_findings, part_finding, part_findings, sheet_findings}
+use Rattle.findings.specs.SupportsFunctions.{called-And, called-Or, called-Not, called-Function, supports_findings}
 
 -- Lists.
 
@@ -134,7 +141,7 @@ module _ (file : ℕ) where
   -- Items.
 
   abbrev Whole : Item → Type 0
-  Whole x = Bare (item_parts x) → list_all is_whole (leaves x) ≡ true
+  Whole x = item_findings file x ≡ [] → list_all is_whole (leaves x) ≡ true
 
   declarations-whole : (ds : List Declaration) → list_all is_whole (map OfDeclaration ds) ≡ true
   declarations-whole [] = refl
@@ -144,22 +151,58 @@ module _ (file : ℕ) where
   rule-whole ss [] listed whole = refl
   rule-whole ss (l ∷ ls) listed whole = both (is_writable_list ss) (list_all is_whole (l ∷ ls)) listed whole
 
-  inner : (xs : List Item) → items.Each Whole xs → Bare (items_parts xs) → list_all is_whole (all_leaves xs) ≡ true
+  group-whole : (condition : GroupCondition) (ls : List Leaf) → is_whole_condition condition ≡ true → list_all is_whole ls ≡ true → list_all is_whole (group_leaves condition ls) ≡ true
+  group-whole condition [] asked whole = refl
+  group-whole condition (l ∷ ls) asked whole = both (is_whole_condition condition) (list_all is_whole (l ∷ ls)) asked whole
+
+  inner : (xs : List Item) → items.Each Whole xs → items_findings file xs ≡ [] → list_all is_whole (all_leaves xs) ≡ true
   inner [] each none = refl
   inner (x ∷ xs) each none =
       list_all-append is_whole (leaves x) (all_leaves xs)
       ∙ both (list_all is_whole (leaves x)) (list_all is_whole (all_leaves xs))
-      (each.0 (bare-front (item_parts x) (items_parts xs) none))
-      (inner xs each.1 (bare-back (item_parts x) (items_parts xs) none))
+      (each.0 (front-none (item_findings file x) (items_findings file xs) none))
+      (inner xs each.1 (back-none (item_findings file x) (items_findings file xs) none))
+
+  -- Conditions.
+
+  abbrev Functionless : Supports → Type 0
+  Functionless c = supports_findings file c ≡ [] → has_no_function c ≡ true
+
+  conditions : (cs : List Supports) → supports_induction.Each Functionless cs → flat_map (supports_findings file) cs ≡ [] → list_all (λ (b : Bool). b) (map has_no_function cs) ≡ true
+  conditions [] each none = refl
+  conditions (c ∷ cs) each none =
+      both (has_no_function c) (list_all (λ (b : Bool). b) (map has_no_function cs))
+      (each.0 (front-none (supports_findings file c) (flat_map (supports_findings file) cs) none))
+      (conditions cs each.1 (back-none (supports_findings file c) (flat_map (supports_findings file) cs) none))
+
+  condition_cases : supports_induction.Cases Functionless
+  condition_cases = record {
+    and_of = λ cs each none. supports_fold.folded-And functionless cs ∙ conditions cs each (sym (called-And file cs) ∙ none);
+    or_of = λ cs each none. supports_fold.folded-Or functionless cs ∙ conditions cs each (sym (called-Or file cs) ∙ none);
+    not_of = λ c same none. supports_fold.folded-Not functionless c ∙ same (sym (called-Not file c) ∙ none);
+    declared = λ name value none. supports_fold.folded-Declared functionless name value;
+    function = λ at none. absurd (cc (none, called-Function file at));
+  }
+
+  condition-whole : (at : ℕ) (condition : GroupCondition) → condition_findings file at condition ≡ [] → is_whole_condition condition ≡ true
+  condition-whole at (Media queries) none = refl
+  condition-whole at (Supported condition) none = supports_induction.by_supports Functionless condition_cases condition none
 
   item_cases : items.Cases Whole
   item_cases = record {
     plain = λ ds none. ap (list_all is_whole) (folded-Plain leafing ds) ∙ declarations-whole ds;
     style = λ s each none.
-        let bare = subst Bare (parts-Style s) none in
-        let listed = list-whole s.selectors (by_lists P Q R cases s.selectors) (bare-front (list_parts s.selectors) (items_parts s.items) bare) in
+        let found = sym (found-Style file s) ∙ none in
+        let listed = list-whole s.selectors (by_lists P Q R cases s.selectors) (front-none (list_findings file s.selectors) (items_findings file s.items) found) in
         ap (list_all is_whole) (folded-Style leafing s ∙ ap (rule_leaves s.selectors) (flat_map-map (λ (ls : List Leaf). ls) leaves s.items))
-        ∙ rule-whole s.selectors (all_leaves s.items) listed (inner s.items each (bare-back (list_parts s.selectors) (items_parts s.items) bare));
+        ∙ rule-whole s.selectors (all_leaves s.items) listed (inner s.items each (back-none (list_findings file s.selectors) (items_findings file s.items) found));
+    group = λ g each none.
+        let found = sym (found-Group file g) ∙ none in
+        let asked = condition-whole g.at g.condition (front-none (condition_findings file g.at g.condition) (items_findings file g.items) found) in
+        ap (list_all is_whole) (folded-Group leafing g ∙ ap (group_leaves g.condition) (flat_map-map (λ (ls : List Leaf). ls) leaves g.items))
+        ∙ group-whole g.condition (all_leaves g.items) asked (inner g.items each (back-none (condition_findings file g.at g.condition) (items_findings file g.items) found));
+    passed = λ rule none. ap (list_all is_whole) (folded-Passed leafing rule);
+    other = λ at none. ap (list_all is_whole) (folded-Other leafing at);
   }
 
   each_item : (xs : List Item) → items.Each Whole xs

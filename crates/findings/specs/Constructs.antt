@@ -1,6 +1,6 @@
 -- The constructs that cannot be expressed for older browsers: where each stands, and its code. A part of a selector has at
 -- most one.
-use Rattle.std.specs.Prelude.{ℕ, List, [], ◌++◌, ◌≡◌, flat_map, Option, Some, None, if◌then◌else◌}
+use Rattle.std.specs.Prelude.{ℕ, List, [], ◌∷◌, ◌++◌, ◌≡◌, flat_map, Option, Some, None, if◌then◌else◌}
 use Rattle.std.proofs.Common.{◌∙◌, ap}
 use Rattle.std.proofs.lemmas.List.Folds.{flat_map-map}
 use Rattle.std.specs.List.{filter_map}
@@ -12,15 +12,22 @@ use Rattle.selector_types.specs.declared.selector.Selector as selector
 use Rattle.selector_types.specs.declared.selector.Link.TheOpen.{Class, Id, Attribute, Pseudo, Not, Is, Where, Parent, Local, Global, Foreign}
 use Rattle.selector_types.specs.LoneSimples.{Opened, is_one_scopable}
 use Rattle.selector_types.specs.PartsWithin.{list_parts}
-use Rattle.css_rules.specs.declared.sheet.Declaration.{Declaration}
-use Rattle.css_rules.specs.declared.sheet.Item.{Item}
-use Rattle.css_rules.specs.declared.sheet.Item as item
-use Rattle.css_rules.specs.declared.sheet.Style as style
-use Rattle.css_rules.specs.declared.sheet.Sheet.{Sheet}
-use Rattle.css_rules.specs.ItemFold.{Steps, folded, folded-Plain, folded-Style}
-use Rattle.cascade_spec.specs.declared.finding.Code.{Code}
-use Rattle.cascade_spec.specs.declared.finding.Code.TheVariants.{X6, X7, X11, X22}
-use Rattle.cascade_spec.specs.declared.finding.Finding.{Finding}
+use Rattle.sheet_types.specs.declared.sheet.Declaration.{Declaration}
+use Rattle.sheet_types.specs.declared.sheet.Item.{Item}
+use Rattle.sheet_types.specs.declared.sheet.Item as item
+use Rattle.sheet_types.specs.declared.sheet.Group as group
+use Rattle.sheet_types.specs.declared.sheet.GroupCondition.{GroupCondition}
+use Rattle.sheet_types.specs.declared.sheet.GroupCondition.TheVariants.{Media, Supports}
+use Rattle.sheet_types.specs.declared.sheet.Passed.{Passed}
+use Rattle.sheet_types.specs.declared.sheet.Style as style
+use Rattle.sheet_types.specs.declared.sheet.Sheet.{Sheet}
+use Rattle.sheet_types.specs.ItemFold.{Steps, folded, folded-Plain, folded-Style, folded-Group, folded-Passed, folded-Other}
+use Rattle.css_places.specs.declared.finding.Code.{Code}
+use Rattle.css_places.specs.declared.finding.Code.TheVariants.{X6, X7, X11, X12, X16, X22}
+use Rattle.css_places.specs.declared.finding.Finding.{Finding}
+use Rattle.findings.specs.Found.{found_at}
+use Rattle.findings.specs.MediaFeatures.{asks_young}
+use Rattle.findings.specs.SupportsFunctions.{supports_findings}
 
 -- `:where` (X6), `:not` of other than one simple selector (X7), a functional pseudo-class or pseudo-element of no known name,
 -- `:local` and `:global` outside of files with scoped names (X11), an attribute selector with a flag (X22)
@@ -41,10 +48,6 @@ code_opened Parent = None
 abbrev pub code_of : Simple → Option Code
 code_of x = code_opened (simple.out-Simple x)
 
--- the finding of this code at this place of this file
-abbrev pub found_at : ℕ → ℕ → Code → Finding
-found_at file at code = record { place = record { file = file; offset = at }; code = code }
-
 -- what stands at a part of a selector of this file
 abbrev pub part_finding : ℕ → part.Part → Option Finding
 part_finding file (part.Placed x at) = option_map (found_at file at) (code_of x)
@@ -57,29 +60,46 @@ part_findings file parts = filter_map (part_finding file) parts
 abbrev pub list_findings : ℕ → List selector.Selector → List Finding
 list_findings file ss = part_findings file (list_parts ss)
 
--- the parts of the selectors of style rules, each before those of the rules in it
-abbrev pub parting_rules : Steps (List part.Part)
-parting_rules = record {
+-- what stands in the condition of a group whose at-keyword stands at this place of this file: where a media feature that older browsers do not know stands under a `not`, X16 at the at-keyword; and each function of a supports condition
+abbrev pub condition_findings : ℕ → ℕ → GroupCondition → List Finding
+condition_findings file at (Media list) = if asks_young list then found_at file at X16 ∷ [] else []
+condition_findings file at (Supports condition) = supports_findings file condition
+
+-- what stands in each kind of item: what stands in the list of a style rule or in the condition of a group, before what stands in the items in it; and an at-rule of another name (X12)
+abbrev pub finding : ℕ → Steps (List Finding)
+finding file = record {
   plain = λ declarations. [];
-  style = λ selectors at inner. list_parts selectors ++ flat_map (λ parts. parts) inner;
+  style = λ selectors at inner. list_findings file selectors ++ flat_map (λ (found : List Finding). found) inner;
+  group = λ condition at inner. condition_findings file at condition ++ flat_map (λ (found : List Finding). found) inner;
+  passed = λ rule. [];
+  other = λ at. found_at file at X12 ∷ [];
 }
 
--- the parts of the selectors in an item
-abbrev pub item_parts : Item → List part.Part
-item_parts = folded parting_rules
+-- what stands in an item of this file
+abbrev pub item_findings : ℕ → Item → List Finding
+item_findings file = folded (finding file)
 
--- the parts of the selectors in items, one after another
-abbrev pub items_parts : List Item → List part.Part
-items_parts items = flat_map item_parts items
+-- what stands in items of this file, one after another
+abbrev pub items_findings : ℕ → List Item → List Finding
+items_findings file items = flat_map (item_findings file) items
 
 -- what stands in a sheet, which is this file
 abbrev pub sheet_findings : ℕ → Sheet → List Finding
-sheet_findings file sheet = part_findings file (items_parts sheet.items)
+sheet_findings file sheet = items_findings file sheet.items
 
--- Declarations have no selectors.
-pub parts-Plain : (ds : List Declaration) → item_parts (item.Plain ds) ≡ []
-parts-Plain ds = folded-Plain parting_rules ds
+-- Equations.
 
--- A style rule has those of its list, and behind them those of the rules in it.
-pub parts-Style : (s : style.Style) → item_parts (item.Style s) ≡ list_parts s.selectors ++ items_parts s.items
-parts-Style s = folded-Style parting_rules s ∙ ap (λ parts. list_parts s.selectors ++ parts) (flat_map-map (λ parts. parts) item_parts s.items)
+pub found-Plain : (file : ℕ) (ds : List Declaration) → item_findings file (item.Plain ds) ≡ []
+found-Plain file ds = folded-Plain (finding file) ds
+
+pub found-Style : (file : ℕ) (s : style.Style) → item_findings file (item.Style s) ≡ list_findings file s.selectors ++ items_findings file s.items
+found-Style file s = folded-Style (finding file) s ∙ ap (λ found. list_findings file s.selectors ++ found) (flat_map-map (λ (found : List Finding). found) (item_findings file) s.items)
+
+pub found-Group : (file : ℕ) (g : group.Group) → item_findings file (item.Group g) ≡ condition_findings file g.at g.condition ++ items_findings file g.items
+found-Group file g = folded-Group (finding file) g ∙ ap (λ found. condition_findings file g.at g.condition ++ found) (flat_map-map (λ (found : List Finding). found) (item_findings file) g.items)
+
+pub found-Passed : (file : ℕ) (rule : Passed) → item_findings file (item.Passed rule) ≡ []
+found-Passed file rule = folded-Passed (finding file) rule
+
+pub found-Other : (file at : ℕ) → item_findings file (item.Other at) ≡ found_at file at X12 ∷ []
+found-Other file at = folded-Other (finding file) at

@@ -1,9 +1,9 @@
 -- Which finding is named: the first by file, then by offset, then by the number of its code.
 use Rattle.std.specs.Prelude.{ℕ, List, Bool, ◌||◌, ◌&&◌, Option, Some, None, if◌then◌else◌, fold, nat_eq, nat_le, nat_lt}
-use Rattle.cascade_spec.specs.declared.finding.Code.{Code}
-use Rattle.cascade_spec.specs.declared.finding.Code.TheVariants.{Syntax, Depth, Missing, Unbuilt, X6, X7, X11, X22}
-use Rattle.cascade_spec.specs.declared.finding.Finding.{Finding}
-use Rattle.cascade_spec.specs.declared.place.Place.{Place}
+use Rattle.css_places.specs.declared.finding.Code.{Code}
+use Rattle.css_places.specs.declared.finding.Code.TheVariants.{Syntax, Depth, Missing, Unbuilt, X6, X7, X11, X12, X16, X17, X22}
+use Rattle.css_places.specs.declared.finding.Finding.{Finding}
+use Rattle.css_places.specs.declared.place.Place.{Place}
 
 -- the number of a code; what a file cannot be loaded for has none
 abbrev pub code_number : Code → ℕ
@@ -14,6 +14,9 @@ code_number Unbuilt = 0
 code_number X6 = 6
 code_number X7 = 7
 code_number X11 = 11
+code_number X12 = 12
+code_number X16 = 16
+code_number X17 = 17
 code_number X22 = 22
 
 -- does the place stand before the other: in an earlier file, or in the same one with fewer bytes before it?

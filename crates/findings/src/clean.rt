@@ -1,21 +1,22 @@
 ghost use Rattle.findings.specs.Constructs.{sheet_findings};
-ghost use Rattle.findings.specs.Firsts.{first_finding};
-ghost use Rattle.std.specs.Prelude.{◌≡◌, [], IfOk, IfErr, Some};
+ghost use Rattle.findings.specs.Limits.{first_fault, sheet_limit};
+ghost use Rattle.std.specs.Prelude.{◌≡◌, [], IfOk, IfErr, None, Some};
 
+use crate::fault::CheckFault;
+use crate::limit::sheet_limit;
 use crate::sheet::first_finding;
-use cascade_spec::Finding;
-use css_rules::Sheet;
+use sheet_types::Sheet;
 use std::marker::Model;
 
-/// A sheet in which nothing stands that cannot be expressed. Contracts see it as the sheet.
+/// A sheet in which nothing stands that cannot be expressed, and which passes no limit. Contracts see it as the sheet.
 #[derive(Debug, Drop)]
 pub struct Clean<'s, 'a> {
     sheet: &'s Sheet<'a>,
 }
 
 impl<'s, 'a> Model for Clean<'s, 'a> {
-    ghost use Rattle.css_rules.specs.declared.sheet.Sheet.{Sheet};
-    ghost use Rattle.css_rules.specs.contracts.sheet.Item as the_item;
+    ghost use Rattle.sheet_types.specs.declared.sheet.Sheet.{Sheet};
+    ghost use Rattle.sheet_types.specs.contracts.sheet.Item as the_item;
     ghost use Rattle.std.specs.Coded.{codes};
     ghost use Rattle.std.specs.Prelude.{[]};
 
@@ -29,8 +30,10 @@ impl<'s, 'a> Model for Clean<'s, 'a> {
 
     ghost use Rattle.std.specs.Prelude.{◌≡◌};
     ghost use Rattle.findings.specs.Constructs.{sheet_findings};
+    ghost use Rattle.findings.specs.Limits.{sheet_limit};
+    ghost use Rattle.std.specs.Prelude.{None};
 
-    ghost invariant = { λ clean. sheet_findings 0 clean.sheet.now ≡ [] };
+    ghost invariant = { λ clean. (sheet_findings 0 clean.sheet.now ≡ []) × (sheet_limit clean.sheet.now ≡ None) };
 }
 
 impl<'s, 'a> Clean<'s, 'a> {
@@ -38,20 +41,25 @@ impl<'s, 'a> Clean<'s, 'a> {
     pub fn sheet(&self) -> &'s Sheet<'a>
         ensures same { result.now ≡ self.now }
         ensures clean { sheet_findings 0 result.now ≡ [] }
+        ensures within { sheet_limit result.now ≡ None }
     {
         self.sheet
     }
 }
 
-/// Takes the sheet of a bundle's one file, and gives it as clean, or the finding in it that is named: the first by its place,
-/// and at one place by the number of its code.
-pub fn check<'s, 'a>(sheet: &'s Sheet<'a>) -> Result<Clean<'s, 'a>, Finding>
+/// Takes the sheet of a bundle's one file, and gives it as clean, or the finding in it that is named, the first by its place and
+/// at one place by the number of its code; or, where nothing is found, the limit that it passes. Takes no memory.
+pub fn check<'s, 'a>(sheet: &'s Sheet<'a>) -> Result<Clean<'s, 'a>, CheckFault>
     ensures clean { IfOk result (λ clean. clean ≡ sheet.now) }
     ensures nothing { IfOk result (λ _. sheet_findings 0 sheet.now ≡ []) }
-    ensures found { IfErr result (λ finding. first_finding (sheet_findings 0 sheet.now) ≡ Some finding) }
+    ensures within { IfOk result (λ _. sheet_limit sheet.now ≡ None) }
+    ensures fault { IfErr result (λ fault. first_fault sheet.now ≡ Some fault) }
 {
     match first_finding(sheet, 0) {
-        Some(finding) => Err(finding),
-        None => Ok(Clean { sheet }),
+        Some(finding) => Err(CheckFault::Finding(finding)),
+        None => match sheet_limit(sheet) {
+            Some(limit) => Err(CheckFault::Limit(limit)),
+            None => Ok(Clean { sheet }),
+        },
     }
 }

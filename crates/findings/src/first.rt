@@ -1,8 +1,19 @@
+ghost use Rattle.findings.specs.Found.{found_at};
 ghost use Rattle.findings.specs.Firsts.{code_number, first_from, is_place, leads, sooner, stands_before};
 ghost use Rattle.std.specs.Option.{option_to_list};
 ghost use Rattle.std.specs.Prelude.{◌≡◌, None, Some};
 
-use cascade_spec::{Code, Finding, Place};
+use css_places::{Code, Finding, Place};
+
+/// The finding of a code at a place of a file.
+pub fn found_at(file: u32, offset: u32, code: Code) -> Finding
+    ensures { result ≡ found_at file offset code }
+{
+    Finding {
+        place: Place { file, offset },
+        code,
+    }
+}
 
 /// The number of a code, by which findings at one place are ordered.
 fn code_number(code: Code) -> u8
@@ -13,6 +24,9 @@ fn code_number(code: Code) -> u8
         Code::X6 => 6,
         Code::X7 => 7,
         Code::X11 => 11,
+        Code::X12 => 12,
+        Code::X16 => 16,
+        Code::X17 => 17,
         Code::X22 => 22,
     }
 }

@@ -1,4 +1,4 @@
-ghost use Rattle.cascade_spec.specs.declared.finding.Finding.{Finding};
+ghost use Rattle.css_places.specs.declared.finding.Finding.{Finding};
 ghost use Rattle.findings.specs.Firsts.{first_finding, leads};
 ghost use Rattle.std.specs.List.{AllByRecursion, Contains};
 ghost use Rattle.std.specs.Prelude.{◌≡◌, [], IsTrue, List, None, Some};

@@ -1,13 +1,13 @@
 //! What stands in the selectors of a rule, at any depth.
 
-ghost use Rattle.findings.specs.Constructs.{code_of, found_at, list_findings, part_finding, part_findings};
+ghost use Rattle.findings.specs.Constructs.{code_of, list_findings, part_finding, part_findings};
 ghost use Rattle.findings.specs.Firsts.{first_from};
 ghost use Rattle.selector_types.specs.PartsWithin.{compound_parts, list_parts, selector_parts, simple_parts};
 ghost use Rattle.selector_types.specs.SelectorFold.{compound_of, simple_of};
 ghost use Rattle.std.specs.Prelude.{◌≡◌, ◌∷◌, flat_map};
 
 use crate::first::sooner;
-use cascade_spec::{Code, Finding, Place};
+use css_places::{Code, Finding, Place};
 use selector_tree::{Compound, Link, Part, Selector, Simple, is_one_scopable};
 
 /// The code of a simple selector that cannot be expressed.

@@ -1,18 +1,18 @@
 //! What stands in the rules of a sheet.
 
-ghost use Rattle.findings.specs.Constructs.{item_parts, items_parts, part_findings, sheet_findings};
+ghost use Rattle.findings.specs.Constructs.{condition_findings, item_findings, items_findings, list_findings, sheet_findings};
 ghost use Rattle.findings.specs.Firsts.{first_finding, first_from};
-ghost use Rattle.css_rules.specs.declared.sheet.Item as the_item;
-ghost use Rattle.std.specs.Prelude.{◌≡◌};
+ghost use Rattle.std.specs.Prelude.{◌≡◌, ◌++◌};
 
+use crate::condition::in_condition;
+use crate::first::{found_at, sooner};
 use crate::selector::in_list;
-use cascade_spec::Finding;
-use css_rules::{Item, Sheet, Style};
+use css_places::{Code, Finding};
+use sheet_types::{Group, Item, Sheet, Style};
 
 #[cycle(finds)]
-#[tactic(auto, using(crate::proofs::Finding::joined))]
 fn in_items(items: &[Item], file: u32, best: Option<Finding>) -> Option<Finding>
-    ensures { result ≡ first_from best (part_findings file (items_parts items.now)) }
+    ensures { result ≡ first_from best (items_findings file items.now) }
 {
     let mut best = best;
     for item in items {
@@ -22,23 +22,32 @@ fn in_items(items: &[Item], file: u32, best: Option<Finding>) -> Option<Finding>
 }
 
 #[cycle(finds)]
-#[tactic(auto, using(crate::proofs::Finding::item_parts_of))]
+#[tactic(auto, using(crate::proofs::Finding::found))]
 fn in_item(item: &Item, file: u32, best: Option<Finding>) -> Option<Finding>
-    ensures { result ≡ first_from best (part_findings file (item_parts item.now)) }
+    ensures { result ≡ first_from best (item_findings file item.now) }
 {
     match item {
         Item::Style(style) => in_style(style, file, best),
-        Item::Plain(_) => best,
+        Item::Group(group) => in_group(group, file, best),
+        Item::Plain(_) | Item::Passed(_) => best,
+        Item::Other(at) => sooner(best, Some(found_at(file, *at, Code::X12))),
     }
 }
 
 #[cycle(finds)]
-#[tactic(auto, using(crate::proofs::Finding::joined))]
 fn in_style(style: &Style, file: u32, best: Option<Finding>) -> Option<Finding>
-    ensures { result ≡ first_from best (part_findings file (item_parts (the_item.Style style.now))) }
+    ensures { result ≡ first_from best (list_findings file style.now.selectors ++ items_findings file style.now.items) }
 {
     let best = in_list(style.selectors.as_slice(), file, best);
     in_items(style.items.as_slice(), file, best)
+}
+
+#[cycle(finds)]
+fn in_group(group: &Group, file: u32, best: Option<Finding>) -> Option<Finding>
+    ensures { result ≡ first_from best (condition_findings file group.now.at group.now.condition ++ items_findings file group.now.items) }
+{
+    let best = in_condition(&group.condition, file, group.at, best);
+    in_items(group.items.as_slice(), file, best)
 }
 
 /// The finding that is named of those in a sheet, which is the file of this number.

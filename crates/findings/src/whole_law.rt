@@ -1,5 +1,5 @@
 ghost use Rattle.css_rules.specs.Printable.{all_whole};
-ghost use Rattle.css_rules.specs.declared.sheet.Sheet.{Sheet};
+ghost use Rattle.sheet_types.specs.declared.sheet.Sheet.{Sheet};
 ghost use Rattle.findings.specs.Constructs.{sheet_findings};
 ghost use Rattle.std.specs.Prelude.{◌≡◌, [], ℕ, IsTrue};
 

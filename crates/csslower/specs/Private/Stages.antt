@@ -20,7 +20,7 @@ IsOfText WriteFault = Unit {0}
 IsOfText Memory = Unit {0}
 IsOfText (Usage kind) = ⊥
 IsOfText ReadFault = ⊥
-IsOfText (Limit kind) = ⊥
+IsOfText (Limit kind) = Unit {0}
 
 -- the text is written, whole or in part
 abbrev pub IsOfWriting : Status → Type 0

@@ -1,7 +1,7 @@
 // Worked examples of the definitions of this crate, each the contract of a function that does nothing.
 ghost use Rattle.std.specs.Prelude.{◌≡◌, List, [], ◌∷◌, ◌++◌, true, false, Some, None, codes};
 ghost use Rattle.std.specs.Fmt.{decimal};
-ghost use Rattle.cascade_spec.specs.declared.finding.Code.TheVariants.{Syntax, Depth, Missing, Unbuilt};
+ghost use Rattle.css_places.specs.declared.finding.Code.TheVariants.{Syntax, Depth, Missing, Unbuilt};
 ghost use Rattle.csslower.specs.Lines.{refusal_line, unread_line, unwritten_line};
 ghost use Rattle.csslower.specs.Words.{entry_of, is_scoped};
 

@@ -1,4 +1,4 @@
-use Rattle.csslower.proofs.OneFinding.{ReadingLaws, finding_one, finding_none}
+use Rattle.csslower.proofs.OneFinding.{ReadingLaws, finding_one, finding_none, finding_within, limit_none}
 use Rattle.csslower.proofs.laws.one_finding.Goals as goal
 
 pub returns : goal.returns
@@ -17,4 +17,6 @@ returns c =
     record {
       one = finding_one laws;
       either = finding_none laws;
+      within = finding_within laws;
+      accepted = limit_none laws;
     }

@@ -1,6 +1,6 @@
 use Rattle.std.proofs.Common.{◌≡◌, ◌∙◌, ap, subst, sym}
-use Rattle.css_rules.specs.declared.sheet.Sheet.{Sheet}
-use Rattle.css_rules.specs.SheetTexts.{sheet_text}
+use Rattle.sheet_types.specs.declared.sheet.Sheet.{Sheet}
+use Rattle.sheet_types.specs.SheetTexts.{sheet_text}
 use Rattle.cascade_spec.specs.Readings.{HasSheet, KeepsWinners}
 use Rattle.sheet_reader.specs.Texts.{SpellsSheet}
 use Rattle.csslower.specs.TargetTexts.{IsTargetText}
