@@ -1,5 +1,5 @@
 use css_tokens::List;
-use media_lower::{clauses, count_clauses, lower_queries};
+use media_clauses::{clauses, count_clauses, lower_queries};
 use media_tree::{MediaFault, Query, read_queries, write_queries};
 use std::alloc::Global;
 use std::test::Fail;

@@ -1,7 +1,7 @@
-use cascade_spec::{Code, Finding, Place};
+use css_places::{Code, Finding, Place};
 use css_rules::{Declaration, Item, RuleFault, Sheet};
 use css_tokens::{Component, OutOfMemory};
-use findings::check;
+use findings::{CheckFault, check};
 use selector_tree::Selector;
 use std::alloc::Global;
 use std::test::Fail;
@@ -21,7 +21,7 @@ fn first_run<'s, 'a>(sheet: &'s Sheet<'a>) -> &'s [Declaration<'a>] {
     };
     match first {
         Item::Plain(run) => run.as_slice(),
-        Item::Style(_) => &[],
+        _ => &[],
     }
 }
 
@@ -173,7 +173,7 @@ fn first_selectors<'s, 'a>(sheet: &'s Sheet<'a>) -> &'s [Selector<'a>] {
     };
     match first {
         Item::Style(style) => style.selectors.as_slice(),
-        Item::Plain(_) => &[],
+        _ => &[],
     }
 }
 
@@ -216,7 +216,7 @@ fn names_what_is_found(rt: HostRuntime) -> Result<(), Fail> {
         let place = Place { file: 0, offset };
         match check(&sheet) {
             Ok(_) => assert!(rt; false, "nothing was found in {text}"),
-            Err(finding) => assert_eq!(rt; finding, Finding { place, code }),
+            Err(fault) => assert_eq!(rt; fault, CheckFault::Finding(Finding { place, code })),
         }
     }
     Ok(())

@@ -9,6 +9,8 @@ mod names;
 #[cfg(test)]
 mod paths;
 #[cfg(test)]
+mod physical;
+#[cfg(test)]
 mod places;
 #[cfg(test)]
 mod pseudos;

@@ -1,4 +1,4 @@
-use cascade_spec::{LineColumn, Place, line_column};
+use css_places::{LineColumn, Place, line_column};
 use std::test::Fail;
 use test_texts::repeated;
 
