@@ -31,7 +31,7 @@ valid-utf8 : (t : List ℕ) → utf8_valid_len t ≡ length t → IsUtf8 t
 unfolding utf8_valid_len
 valid-utf8 t e = subst IsUtf8 (ap (λ n. take n t) e ∙ take-all t) (front-utf8 t (length t))
 
-none-any : (t : List ℕ) → list_all (λ b. not (is_control b)) t ≡ true → list_any is_control t ≡ false
+pub none-any : (t : List ℕ) → list_all (λ b. not (is_control b)) t ≡ true → list_any is_control t ≡ false
 none-any [] h = refl
 none-any (b ∷ t) h = let p = and_parts (not (is_control b)) (list_all (λ x. not (is_control x)) t) h in at (is_control b) p.0 (none-any t p.1)
   where

@@ -20,7 +20,7 @@ ghost use Rattle.css_tokens.specs.Numbers.{after_number, is_digits, is_sign};
 ghost use Rattle.css_tokens.specs.PlainNames.{is_plain};
 ghost use Rattle.css_tokens.specs.Tokens.{First, IsPlaced, Reads, ReadsTo, StopsAt, classes_of, is_control, is_url, mark_length, quote_follows, spells};
 ghost use Rattle.css_tokens.specs.Trees.{words_all, all_formed, is_text, pieces_all};
-ghost use Rattle.css_tokens.specs.Values.{is_gap, value_words, value_text};
+ghost use Rattle.css_tokens.specs.Values.{is_gap, is_white, value_words, value_text};
 
 /// A text reads in at most one way, or has a fault at one place within it, and never both.
 pub fn one_reading()
@@ -66,9 +66,11 @@ pub fn places_rise_in_a_text()
 
 /// Words that are written one after another are read again. A token that is neither white space nor a comment stays the
 /// first where what follows it changes behind a stop (`specs/Again.antt`); for a Function named `url` a quote has to stay,
-/// and an escape at the token's end must not take the white space that then follows.
+/// and an escape at the token's end must not take the white space that then follows. A token other than white space begins
+/// with no white space.
 pub fn words_again()
     ensures keeps { (w : Word) (a b : List ℕ) → is_solid w.kind ≡ true → StaysFirst w a → Alike a b → (is_url w.text ≡ true → KeepsQuote a b) → takes w b ≡ false → StaysFirst w b }
+    ensures begins { (w : Word) (a : List ℕ) → StaysFirst w a → is_white w.kind ≡ false → begins_none white (w.text ++ a) ≡ true }
     ensures composes { (xs ys : List Word) (s r : List ℕ) → ReadsTo (spelled xs ++ s) xs s → ReadsTo s ys r → ReadsTo (spelled xs ++ s) (xs ++ ys) r }
     ensures marks { AllByRecursion (λ w. (rest : List ℕ) → StaysFirst w rest) marks }
     ensures dot { (rest : List ℕ) → begins_none digit rest ≡ true → StaysFirst (word_from kind.Delim (codes ".")) rest }
@@ -110,9 +112,10 @@ pub fn names_spell()
     ensures first { (t : List ℕ) (w : Word) → First t w → spells w.kind w.text ≡ true }
 {}
 
-/// The words of a text are in UTF-8, and hold no control character.
+/// The words of a text are in UTF-8, and hold no control character; and words that are read before anything else hold none.
 pub fn words_are_clean()
-    ensures { (t : List ℕ) (ws : List Word) → Reads t ws → list_all (λ w. is_utf8 w.text && not (list_any is_control w.text)) ws ≡ true }
+    ensures whole { (t : List ℕ) (ws : List Word) → Reads t ws → list_all (λ w. is_utf8 w.text && not (list_any is_control w.text)) ws ≡ true }
+    ensures before { (t : List ℕ) (ws : List Word) (r : List ℕ) → ReadsTo t ws r → list_any is_control (spelled ws) ≡ false }
 {}
 
 /// What stands behind the `#` of a Hash spells an Ident where it would start one, and nowhere else (CSS Syntax 3, section

@@ -3,4 +3,4 @@
 
 mod texts;
 
-pub use texts::{components_of, repeated, sheet_of, tokens_of};
+pub use texts::{components_of, repeated, tokens_of};

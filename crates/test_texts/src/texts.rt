@@ -1,7 +1,6 @@
 ghost use Rattle.std.specs.Prelude.{IsTrue, length};
 ghost use Rattle.css_tokens.specs.Pairing.{places_rise};
 
-use css_rules::{RuleFault, Sheet, read_sheet};
 use css_tokens::{
     Component, ComponentFault, List, OutOfMemory, Token, components, places_rise_in_a_text, tokens,
 };
@@ -44,16 +43,5 @@ pub fn components_of(alloc: Global, text: &str) -> Result<List<Component<'_>>, C
     match u32::try_from(text.len()) {
         Ok(end) => components(alloc, list.as_slice(), end),
         Err(_) => Err(ComponentFault::Memory),
-    }
-}
-
-/// The sheet of such a text.
-pub fn sheet_of(alloc: Global, text: &str) -> Result<Sheet<'_>, RuleFault> {
-    let Ok(end) = u32::try_from(text.len()) else {
-        return Err(RuleFault::Memory);
-    };
-    match components_of(alloc, text) {
-        Ok(parts) => read_sheet(alloc, parts.as_slice(), end),
-        Err(_) => Err(RuleFault::Memory),
     }
 }
