@@ -20,7 +20,7 @@ use Rattle.sheet_types.specs.ItemFold.{Steps, folded, folded-Plain, folded-Style
 use Rattle.sheet_types.specs.ItemInduction.{Each, by_items}
 use Rattle.sheet_types.specs.PassedRules.{keyword_of}
 use Rattle.sheet_types.specs.Runs.{run_of}
-use Rattle.sheet_types.specs.Statements.{BareDeclaration, BarePassed, Saying, Statement, Declares, Passes, bare_declaration, bare_passed, says, say_all, says-Plain, says-Style, says-Group, says-Passed, says-Other}
+use Rattle.sheet_types.specs.Statements.{BareDeclaration, BarePassed, Saying, Statement, Declares, Passes, bare_declaration, says, say_all, says-Plain, says-Style, says-Group, says-Passed, says-Other}
 
 -- Places.
 

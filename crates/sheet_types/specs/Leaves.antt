@@ -1,5 +1,6 @@
 -- Where items may stand, and what they are made of: declarations, selector lists, conditions and rules that are passed on.
 use Rattle.std.specs.Prelude.{List, [], ◌∷◌, map, flat_map, Bool, true, false, ◌≡◌}
+use Rattle.std.specs.List.{list_all}
 use Rattle.selector_types.specs.declared.selector.Selector.{Selector}
 use Rattle.sheet_types.specs.declared.sheet.Declaration.{Declaration}
 use Rattle.sheet_types.specs.declared.sheet.GroupCondition.{GroupCondition}
@@ -9,7 +10,7 @@ use Rattle.sheet_types.specs.ItemFold.{Steps, folded}
 
 -- Where items stand.
 
--- may an item stand alone in the block of a style rule, and may it stand at the top of a sheet?
+-- may an item stand alone in the block of a style rule, and may it stand at the top of a sheet or of a group?
 pub record Seat : Type 0 where
   pub alone : Bool
   pub top : Bool
@@ -25,21 +26,21 @@ is_lone [] = true
 is_lone (seat ∷ []) = seat.alone
 is_lone (first ∷ second ∷ seats) = false
 
--- Declarations stand alone in a block, and a style rule at the top. It is empty, or what stands in it stands there alone. Groups and other at-rules are not read yet, and stand nowhere.
+-- Declarations stand alone in a block. A style rule stands at the top, where it is empty or what stands in it stands there alone; so does a group, where each item in it may stand at the top, and so do rules that are passed on and other at-rules.
 abbrev pub seating : Steps Seat
 seating = record {
   plain = λ ds. record { alone = declares ds; top = false };
   style = λ selectors at inner. record { alone = false; top = is_lone inner };
-  group = λ condition at inner. record { alone = false; top = false };
-  passed = λ rule. record { alone = false; top = false };
-  other = λ at. record { alone = false; top = false };
+  group = λ condition at inner. record { alone = false; top = list_all (λ (seat : Seat). seat.top) inner };
+  passed = λ rule. record { alone = false; top = true };
+  other = λ at. record { alone = false; top = true };
 }
 
 -- where an item may stand
 abbrev pub seat : Item → Seat
 seat = folded seating
 
--- may it stand at the top of a sheet?
+-- may it stand at the top of a sheet or of a group?
 abbrev pub IsTop : Item → Type 0
 IsTop x = (seat x).top ≡ true
 
