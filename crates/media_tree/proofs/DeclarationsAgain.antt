@@ -1,18 +1,15 @@
 -- A declaration in parentheses that is spelled out is read as it, its value as it prints.
-use Rattle.std.proofs.Common.{◌≡◌, ℕ, List, [], ◌∷◌, ◌++◌, map, Bool, true, false, ◌&&◌, not, refl, sym, ap, ◌∙◌, subst}
+use Rattle.std.proofs.Common.{◌≡◌, ℕ, List, [], ◌∷◌, ◌++◌, map, Bool, true, false, not, refl, sym, ap, ◌∙◌}
 use Rattle.std.specs.Prelude.{Option, Some, None, codes, IsTrue, if◌then◌else◌}
-use Rattle.std.specs.Option.{option_or}
-use Rattle.std.proofs.lemmas.Bool.{and_parts, false≢true}
+use Rattle.std.proofs.lemmas.Bool.{false≢true}
 use Rattle.css_tokens.specs.declared.kind.Kind.{Kind}
 use Rattle.css_tokens.specs.declared.kind.Kind.TheVariants as kinds
-use Rattle.css_tokens.specs.declared.component.Component.{Component, out-Component}
-use Rattle.css_tokens.specs.declared.component.Component as component
+use Rattle.css_tokens.specs.declared.component.Component.{Component}
 use Rattle.css_tokens.specs.declared.component.Component.TheVariants.{outs-Single, outs-Block}
-use Rattle.css_tokens.specs.declared.component.Block as block
 use Rattle.css_tokens.specs.Names.{is_name, name_of_word}
 use Rattle.css_tokens.specs.NameText.{name_text}
 use Rattle.css_tokens.specs.Trees.{all_formed, is_text}
-use Rattle.css_tokens.specs.ValueAgain.{head_kind, head_kind-Single, is_solid, value_again}
+use Rattle.css_tokens.specs.ValueAgain.{head_kind-Single, is_solid, value_again}
 use Rattle.css_tokens.specs.Values.{is_gap as is_gap_kind, value_text}
 use Rattle.media_spelling.specs.declared.supports.Supports.{Supports}
 use Rattle.media_spelling.specs.declared.supports.Supports as supports
@@ -22,11 +19,11 @@ use Rattle.media_tree.specs.declared.sign.Sign.{Sign}
 use Rattle.media_tree.specs.declared.sign.Sign.TheVariants.{Not, Only, And, Or, Name, Other}
 use Rattle.media_spelling.specs.Components.{colon, ident, parens, single}
 use Rattle.media_tree.specs.ComponentInduction.{by_components}
-use Rattle.media_tree.specs.Conditions.{condition_of, name_sign, solid, within}
-use Rattle.media_tree.specs.Marks.{block_mark, is_gap, is_gap_mark, layer_mark, lowered, mark_of, token_mark, trimmed, trimmed_end, trimmed_start}
-use Rattle.media_spelling.specs.Spelling.{declaration_spelling, value_spelling}
-use Rattle.media_tree.specs.SupportsAgain.{is_readable_declaration}
+use Rattle.media_tree.specs.Conditions.{condition_of, name_sign, solid}
+use Rattle.media_tree.specs.Marks.{is_gap, is_gap_mark, layer_mark, lowered, mark_of, token_mark, trimmed, trimmed_end}
+use Rattle.media_spelling.specs.Spelling.{value_spelling}
 use Rattle.media_tree.specs.SupportsReading.{declaration_from, declaration_of, declared, declared_by, declared_from, is_colon_mark, is_custom, layer_name, makes, may_be_value, name_of, property_name, sign_of}
+use Rattle.media_tree.proofs.DeclarationParts.{declaration-parts}
 use Rattle.media_tree.proofs.SignEquations.{supports-Single}
 use Rattle.media_tree.proofs.TextLemmas.{same-text}
 use Rattle.media_tree.proofs.SupportsAgain.{Leaf, declaration-sign, signs_of}
@@ -124,10 +121,8 @@ module _ (means : (n : List ℕ) → is_name n ≡ true → name_of_word kinds.I
   -- Readable declarations are read as they print.
   pub declarations-again : Leaf
   declarations-again name value r =
-      (let p = and_parts (is_name name) (is_text (property_name name) name && (all_formed value && may_be_value (is_custom name) (value_again value))) r in
-      let q = and_parts (is_text (property_name name) name) (all_formed value && may_be_value (is_custom name) (value_again value)) p.1 in
-      let s = and_parts (all_formed value) (may_be_value (is_custom name) (value_again value)) q.1 in
-      let spelled = value-as value s.0 in
+      (let parts = declaration-parts name value r in
+      let spelled = value-as value parts.formed in
       ap (λ (cs : List Component). sign_of (parens (ident name ∷ colon ∷ cs))) spelled
       ∙ declaration-sign (ident name ∷ colon ∷ value_again value) (supports.Declared name (value_again value)) (no-condition name (value_again value))
-      (declaration-read name (value_again value) p.0 (same-text (property_name name) name q.0) (whole-value value) s.1))
+      (declaration-read name (value_again value) parts.named (same-text (property_name name) name parts.same) (whole-value value) parts.may))

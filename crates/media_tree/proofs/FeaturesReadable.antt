@@ -55,7 +55,7 @@ abbrev pub IsLower : List ℕ → Type 0
 IsLower n = is_lower_name n ≡ true
 
 abbrev IsNumber : List ℕ → Type 0
-IsNumber n = spells kinds.Number n ≡ true
+IsNumber n = is_spelled (record { kind = kinds.Number; text = n }) ≡ true
 
 abbrev AllStand : List (List ℕ) → Type 0
 AllStand vs = AllByRecursion StandsAsValue vs
@@ -138,7 +138,7 @@ module _ (laws : ReadLaws) where
   name-lower cs g = lone-lower (trimmed cs) (each-trimmed Stands cs g)
 
   token-number : (k : Kind) (t : List ℕ) → is_spelled (record { kind = k; text = t }) ≡ true → OfSome IsNumber (token_number k t)
-  token-number kinds.Number t h = (and_parts (is_utf8 t) (spells kinds.Number t) h).1
+  token-number kinds.Number t h = h
   token-number k t h = tt
 
   number-spelled : (c : Component) → Stands c → OfSome IsNumber (number_text c)
@@ -149,9 +149,9 @@ module _ (laws : ReadLaws) where
       c
 
   token-fine : (k : Kind) (t : List ℕ) → is_spelled (record { kind = k; text = t }) ≡ true → OfSome IsValue (token_value k t)
-  token-fine kinds.Number t h = token-is-value laws.words kinds.Number t refl (and_parts (is_utf8 t) (spells kinds.Number t) h).1
-  token-fine kinds.Dimension t h = token-is-value laws.words kinds.Dimension t refl (and_parts (is_utf8 t) (spells kinds.Dimension t) h).1
-  token-fine kinds.Ident t h = token-is-value laws.words kinds.Ident t refl (and_parts (is_utf8 t) (spells kinds.Ident t) h).1
+  token-fine kinds.Number t h = (let p = and_parts (is_utf8 t) (spells kinds.Number t) h in token-is-value laws.words kinds.Number t refl p.0 p.1)
+  token-fine kinds.Dimension t h = (let p = and_parts (is_utf8 t) (spells kinds.Dimension t) h in token-is-value laws.words kinds.Dimension t refl p.0 p.1)
+  token-fine kinds.Ident t h = (let p = and_parts (is_utf8 t) (spells kinds.Ident t) h in token-is-value laws.words kinds.Ident t refl p.0 p.1)
   token-fine k t h = tt
 
   utf8-fine : (b : Bool) (t : List ℕ) → (b ≡ true → IsValue t) → OfSome IsValue (if b then Some t else None)

@@ -1,7 +1,7 @@
 -- A Function that is read as a value is a readable value.
 use Rattle.std.proofs.Common.{◌≡◌, ℕ, List, [], ◌∷◌, ◌++◌, map, Bool, true, false, ◌&&◌, not, refl, sym, ap, ap₂, ◌∙◌, subst, codes}
 use Rattle.std.specs.Prelude.{Some, None, if◌then◌else◌}
-use Rattle.std.specs.List.{AllByRecursion, list_all}
+use Rattle.std.specs.List.{list_all}
 use Rattle.std.specs.Str.{is_utf8}
 use Rattle.std.proofs.lemmas.Bool.{and_parts}
 use Rattle.std.proofs.lemmas.List.{append-nil}
@@ -152,4 +152,4 @@ module _ (laws : PrintLaws) where
       let there : ReadsTo (spelled (words_of (component.Block d)) ++ []) (words_of (component.Block d)) [] =
       subst (λ (ws : List Word). ReadsTo (spelled ws ++ []) ws []) (sym kept ∙ one-word d) (laws.printed cs formed (alone-read b stands.behind [] stands.reads)) in
       let on : (rest : List ℕ) → ReadsTo (v ++ rest) (words_all ds) rest = λ rest. subst (λ (t : List ℕ). ReadsTo (t ++ rest) (words_all ds) rest) spelled_so (alone-read d [] rest there) in
-      made-value v ds same (function-part d f) value (begins-so b f stands v spelled_so) (each-of (λ next. (rest : List ℕ) → ReadsTo (v ++ (next ++ rest)) (words_all ds) (next ++ rest)) (λ next rest. on (next ++ rest)) (behind_value v)))
+      made-value v ds same (function-part d f) value u (begins-so b f stands v spelled_so) (each-of (λ next. (rest : List ℕ) → ReadsTo (v ++ (next ++ rest)) (words_all ds) (next ++ rest)) (λ next rest. on (next ++ rest)) (behind_value v)))

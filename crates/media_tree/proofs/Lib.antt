@@ -4,6 +4,7 @@ pub mod SignEquations
 pub mod ReadingLemmas
 pub mod ResultLemmas
 pub mod Utf8Lemmas
+pub mod DeclarationParts
 pub mod Computing
 pub mod ConditionsAgain
 pub mod QueriesAgain

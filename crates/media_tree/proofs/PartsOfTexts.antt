@@ -1,6 +1,7 @@
 -- Components of a text that is read, and the parts of their lists.
-use Rattle.std.proofs.Common.{◌≡◌, ℕ, suc, zero, List, [], ◌∷◌, ◌++◌, map, Bool, true, false, ◌&&◌, take, drop, refl, sym, ap, ◌∙◌, cond}
+use Rattle.std.proofs.Common.{◌≡◌, ℕ, suc, zero, List, [], ◌∷◌, ◌++◌, map, Bool, true, false, ◌&&◌, take, drop, refl, sym, ap, ap₂, ◌∙◌, cond}
 use Rattle.std.specs.List.{list_all}
+use Rattle.std.specs.Str.{is_utf8}
 use Rattle.std.proofs.lemmas.Bool.{and_parts}
 use Rattle.std.proofs.lemmas.List.{map-append}
 use Rattle.std.proofs.lemmas.List.Folds.{list_all-append}
@@ -8,10 +9,12 @@ use Rattle.css_tokens.specs.declared.component.Component.{Component}
 use Rattle.css_tokens.specs.declared.component.Component as component
 use Rattle.css_tokens.specs.declared.component.Block as block
 use Rattle.css_tokens.specs.Piece.{Piece, Word, word_of}
+use Rattle.css_tokens.specs.Tokens.{spells}
 use Rattle.css_tokens.specs.Trees.{all_formed, closing, is_formed, is_formed-Block, opens, pieces_all, pieces_of, pieces_of-Single, pieces_of-Block, words_all}
 use Rattle.media_tree.specs.ComponentInduction.{Each}
 use Rattle.media_tree.specs.Marks.{is_gap, trimmed, trimmed_end, trimmed_start}
 use Rattle.media_tree.specs.SpelledWords.{is_spelled}
+use Rattle.media_tree.specs.SupportsAgain.{is_utf8_value}
 
 abbrev pub words_of : Component → List Word
 words_of c = map word_of (pieces_of c)
@@ -43,6 +46,20 @@ all-good (c ∷ cs) f s =
 pub all-formed : (cs : List Component) → Each Good cs → all_formed cs ≡ true
 all-formed [] g = refl
 all-formed (c ∷ cs) g = ap (λ (b : Bool). b && all_formed cs) g.0.formed ∙ all-formed cs g.1
+
+-- words that are spelled are in UTF-8
+words-utf8 : (ws : List Word) → list_all is_spelled ws ≡ true → list_all (λ w. is_utf8 w.text) ws ≡ true
+words-utf8 [] h = refl
+words-utf8 (w ∷ ws) h =
+    let p = and_parts (is_spelled w) (list_all is_spelled ws) h in
+    ap₂ ◌&&◌ (and_parts (is_utf8 w.text) (spells w.kind w.text) p.0).0 (words-utf8 ws p.1)
+
+pub all-utf8 : (cs : List Component) → Each Good cs → is_utf8_value cs ≡ true
+all-utf8 [] g = refl
+all-utf8 (c ∷ cs) g =
+    ap (list_all (λ w. is_utf8 w.text)) (words-cons c cs)
+    ∙ list_all-append (λ w. is_utf8 w.text) (words_of c) (words_all cs)
+    ∙ ap₂ ◌&&◌ (words-utf8 (words_of c) g.0.spelled) (all-utf8 cs g.1)
 
 -- the token is spelled
 pub token-good : (p : Piece) → Good (component.Single p) → is_spelled (word_of p) ≡ true

@@ -1,5 +1,5 @@
 -- The text of a supports condition is read as its words.
-use Rattle.std.proofs.Common.{◌≡◌, ℕ, List, [], ◌∷◌, ◌++◌, map, Bool, true, false, ◌&&◌, refl, sym, ap, ◌∙◌, subst, codes}
+use Rattle.std.proofs.Common.{◌≡◌, ℕ, List, [], ◌∷◌, ◌++◌, map, Bool, true, ◌&&◌, refl, sym, ap, ◌∙◌, subst, codes}
 use Rattle.std.specs.Prelude.{flat_map, if◌then◌else◌}
 use Rattle.std.specs.List.{AllByRecursion, list_all}
 use Rattle.std.proofs.lemmas.Bool.{and_parts, false≢true}
@@ -11,7 +11,7 @@ use Rattle.css_tokens.specs.NameText.{name_text}
 use Rattle.css_tokens.specs.Names.{is_name}
 use Rattle.css_tokens.specs.Piece.{Word, spelled}
 use Rattle.css_tokens.specs.Tokens.{ReadsTo, classes_of}
-use Rattle.css_tokens.specs.Trees.{all_formed, is_text, words_all}
+use Rattle.css_tokens.specs.Trees.{all_formed, words_all}
 use Rattle.css_tokens.specs.ValueAgain.{value_again}
 use Rattle.css_tokens.specs.Values.{value_text, value_words}
 use Rattle.media_spelling.specs.declared.supports.Supports.{Supports}
@@ -21,8 +21,8 @@ use Rattle.media_spelling.specs.SupportsInduction.{Each, by_supports}
 use Rattle.media_spelling.specs.Spelling.{compound, declaration_spelling, enclosed, joined, spelled_supports, supports_spelling, supports_steps, supports_text, value_spelling}
 use Rattle.media_tree.specs.ReadableQueries.{has_two}
 use Rattle.media_tree.specs.SupportsAgain.{is_readable_declaration, is_readable_supports, readable}
-use Rattle.media_tree.specs.SupportsReading.{is_custom, may_be_value, property_name}
 use Rattle.media_spelling.specs.SupportsValues.{ValueStands, DeclaredValuesStand, gathering, supports_values}
+use Rattle.media_tree.proofs.DeclarationParts.{declaration-parts}
 use Rattle.media_tree.proofs.ListsHold.{each-back, each-front}
 use Rattle.media_tree.proofs.SpelledReads.{IsKeyword, ReadsInside, SpelledReads, Words, is-and, is-not, is-or, reads-compound, reads-enclosed, reads-negated, row-dark, row-read}
 use Rattle.media_tree.proofs.WordsRead.{ReadsOn, on-single, text-first}
@@ -58,10 +58,8 @@ module _ (q : SupportsWords) where
 
   declared-held : (n : List ℕ) (v : List Component) → is_readable_declaration n v ≡ true → ValueStands v → SpelledReads (enclosed (declaration_spelling n v))
   declared-held n v r stands =
-      (let p = and_parts (is_name n) (is_text (property_name n) n && (all_formed v && may_be_value (is_custom n) (value_again v))) r in
-      let s = and_parts (is_text (property_name n) n) (all_formed v && may_be_value (is_custom n) (value_again v)) p.1 in
-      let formed = (and_parts (all_formed v) (may_be_value (is_custom n) (value_again v)) s.1).0 in
-      reads-enclosed q.words (ident n ∷ colon ∷ value_spelling v) (declared-inside n v p.0 formed stands))
+      (let parts = declaration-parts n v r in
+      reads-enclosed q.words (ident n ∷ colon ∷ value_spelling v) (declared-inside n v parts.named parts.formed stands))
 
   -- Conditions.
 

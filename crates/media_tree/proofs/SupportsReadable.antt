@@ -30,11 +30,11 @@ use Rattle.media_tree.specs.ComponentInduction.{Each, by_components}
 use Rattle.media_tree.specs.Conditions.{condition_of, kind_sign, solid, within}
 use Rattle.media_tree.specs.Marks.{is_gap, is_gap_mark, layer_mark, lowered, mark_of, token_mark, trimmed, trimmed_end, trimmed_start}
 use Rattle.media_spelling.specs.SupportsAgain.{functionless, has_no_function}
-use Rattle.media_tree.specs.SupportsAgain.{is_readable_declaration, is_readable_supports, readable}
+use Rattle.media_tree.specs.SupportsAgain.{is_readable_declaration, is_readable_supports, is_utf8_value, readable}
 use Rattle.media_tree.specs.SupportsReading.{declaration_from, declaration_of, declared, declared_by, declared_from, inside_of, is_barred, is_barred_mark, is_braces, is_braces_mark, is_colon_mark, is_custom, is_own_value, layer_name, makes, may_be_value, name_of, opened_sign, property_name, sign_of, supports_reading, token_name}
 use Rattle.media_tree.specs.SpelledWords.{is_spelled}
 use Rattle.media_tree.proofs.LowerNames.{lower-name, lower-twice}
-use Rattle.media_tree.proofs.PartsOfTexts.{Good, all-formed, all-good, each-start, each-trimmed, inside-good, token-good}
+use Rattle.media_tree.proofs.PartsOfTexts.{Good, all-formed, all-good, all-utf8, each-start, each-trimmed, inside-good, token-good}
 use Rattle.media_tree.proofs.ReadConditions.{InWithin, Kept, OfSome, condition-kept, in-within, solid-kept, some-or}
 use Rattle.media_tree.proofs.SignEquations.{supports-Single, supports-Block}
 
@@ -251,12 +251,12 @@ module _ (printing : Printing) where
       (λ b each g. subst (OfSome IsName) (sym (ap layer_name (outs-Block b))) tt)
       c
 
-  declared-readable : (n : List ℕ) (v : List Component) → IsName n → IsValue v → may_be_value (is_custom n) (value_again v) ≡ true → is_readable_declaration (property_name n) v ≡ true
-  declared-readable n v h is may =
+  declared-readable : (n : List ℕ) (v : List Component) → IsName n → IsValue v → is_utf8_value v ≡ true → may_be_value (is_custom n) (value_again v) ≡ true → is_readable_declaration (property_name n) v ≡ true
+  declared-readable n v h is utf8 may =
       (let p = is-property n h in
       let same : is_text (property_name (property_name n)) (property_name n) ≡ true = (bytes_decides (property_name (property_name n)) (property_name n)).1 p.same in
       let value : may_be_value (is_custom (property_name n)) (value_again v) ≡ true = ap (λ (b : Bool). may_be_value b (value_again v)) p.custom ∙ may in
-      ap₂ ◌&&◌ p.name (ap₂ ◌&&◌ same (ap₂ ◌&&◌ is.formed value)))
+      ap₂ ◌&&◌ p.name (ap₂ ◌&&◌ same (ap₂ ◌&&◌ is.formed (ap₂ ◌&&◌ utf8 value))))
 
   declared-at : (b : Bool) (n : List ℕ) (v : List Component) → (b ≡ true → IsFine (supports.Declared (property_name n) v)) → OfSome IsFine (if b then Some (supports.Declared (property_name n) v) else None)
   declared-at true n v h = h refl
@@ -266,10 +266,11 @@ module _ (printing : Printing) where
   declared-fine n cs h g =
       (let v = trimmed cs in
       let starts = each-start Good cs g in
-      let formed = all-formed v (each-trimmed Good cs g) in
+      let each = each-trimmed Good cs g in
+      let formed = all-formed v each in
       let is : IsValue v = record { formed = formed; printed = printing.formed v formed; solid = printing.solid v } in
       declared-at (may_be_value (is_custom n) v) n v
-      (λ may none. folded-Declared readable (property_name n) v ∙ declared-readable n v h is (may-be (is_custom n) v is (trimmed-solid (trimmed_start cs) starts) may)))
+      (λ may none. folded-Declared readable (property_name n) v ∙ declared-readable n v h is (all-utf8 v each) (may-be (is_custom n) v is (trimmed-solid (trimmed_start cs) starts) may)))
 
   where_some : (b : Bool) (o : Option Supports) → OfSome IsFine o → OfSome IsFine (if b then o else None)
   where_some true o h = h

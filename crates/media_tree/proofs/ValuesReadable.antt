@@ -1,9 +1,9 @@
 -- A token or a ratio that is read as a value is a readable value, and stands as one.
-use Rattle.std.proofs.Common.{◌≡◌, ℕ, List, [], ◌∷◌, ◌++◌, map, Bool, true, false, ◌&&◌, not, refl, sym, ap, ap₂, ◌∙◌, subst}
+use Rattle.std.proofs.Common.{◌≡◌, ℕ, List, [], ◌∷◌, ◌++◌, map, Bool, true, false, ◌&&◌, refl, sym, ap, ap₂, ◌∙◌, subst}
 use Rattle.std.specs.Prelude.{Some, codes, if◌then◌else◌}
 use Rattle.std.specs.List.{AllByRecursion, list_all}
-use Rattle.std.specs.Str.{chars}
-use Rattle.std.proofs.lemmas.Bool.{false≢true}
+use Rattle.std.specs.Str.{chars, is_utf8}
+use Rattle.std.proofs.lemmas.Bool.{and_parts, false≢true}
 use Rattle.std.proofs.lemmas.List.{append-nil}
 use lib.Pointwise.{bytes_decides}
 use lib.Utf8.{encode}
@@ -19,10 +19,12 @@ use Rattle.media_spelling.specs.TextComponents.{text_components}
 use Rattle.media_tree.specs.Features.{value_in}
 use Rattle.media_tree.specs.ReadValues.{StandsAsValue, behind_value}
 use Rattle.media_tree.specs.ReadableQueries.{is_readable_value, is_some_text, is_value_part}
+use Rattle.media_tree.specs.SpelledWords.{is_spelled}
 use Rattle.media_tree.proofs.Computing.{computing}
 use Rattle.media_tree.proofs.ListsHold.{each-by}
 use Rattle.media_tree.proofs.TextsRead.{FirstSpells, text-read}
 use Rattle.media_tree.proofs.TreePlaces.{bare, bare-Single}
+use Rattle.media_tree.proofs.Utf8Lemmas.{utf8-append}
 use Rattle.media_tree.proofs.WordsRead.{ReadsOn, on-nothing, on-single, text-first}
 
 -- the kinds of tokens that are values
@@ -58,12 +60,12 @@ abbrev pub ReadsBehind : List Component → List ℕ → Type 0
 ReadsBehind ds value = AllByRecursion (λ next. (rest : List ℕ) → ReadsTo (value ++ (next ++ rest)) (words_all ds) (next ++ rest)) (behind_value value)
 
 -- what is known of a value's text, by the components that it spells
-pub made-value : (v : List ℕ) (ds : List Component) → text_components v ≡ ds → list_all is_value_part ds ≡ true → value_in ds ≡ Some v → begins_none bang v ≡ true → ReadsBehind ds v → IsValue v
-made-value v ds e parts value begins reads =
+pub made-value : (v : List ℕ) (ds : List Component) → text_components v ≡ ds → list_all is_value_part ds ≡ true → value_in ds ≡ Some v → is_utf8 v ≡ true → begins_none bang v ≡ true → ReadsBehind ds v → IsValue v
+made-value v ds e parts value utf8 begins reads =
     let known : (list_all is_value_part ds && is_some_text v (value_in ds)) ≡ true = ap₂ ◌&&◌ parts (ap (is_some_text v) value ∙ (bytes_decides v v).1 refl) in
     record {
       readable = ap (λ (cs : List Component). list_all is_value_part cs && is_some_text v (value_in cs)) e ∙ known;
-      stands = record { begins = begins; reads = subst (λ (cs : List Component). ReadsBehind cs v) (sym e) reads };
+      stands = record { utf8 = utf8; begins = begins; reads = subst (λ (cs : List Component). ReadsBehind cs v) (sym e) reads };
     }
 
 token-part : (k : Kind) (t : List ℕ) → is_value_kind k ≡ true → list_all is_value_part (single k t ∷ []) ≡ true
@@ -106,6 +108,15 @@ gaps false = single kinds.Comment (codes "/**/") ∷ []
 -- the text of it
 abbrev pub gap_at : Bool → List ℕ
 gap_at unseen = if unseen then [] else codes "/**/"
+
+gap-utf8 : (unseen : Bool) → is_utf8 (gap_at unseen) ≡ true
+unfolding is_utf8 chars encode
+gap-utf8 true = refl
+gap-utf8 false = refl
+
+slash-utf8 : is_utf8 (codes "/") ≡ true
+unfolding is_utf8 chars encode
+slash-utf8 = refl
 
 -- a `/` and what stands behind it in a ratio
 abbrev divided : Bool → List ℕ → List Component
@@ -150,14 +161,20 @@ ratio-spelled true false n d = simp (computing, append-nil)
 ratio-spelled false true n d = simp (computing, append-nil)
 ratio-spelled false false n d = simp (computing, append-nil)
 
+ratio-utf8 : (a b : Bool) (n d : List ℕ) → is_utf8 n ≡ true → is_utf8 d ≡ true → is_utf8 (ratio_text a b n d) ≡ true
+ratio-utf8 a b n d h k =
+    utf8-append n (gap_at a ++ (codes "/" ++ (gap_at b ++ d))) h
+    (utf8-append (gap_at a) (codes "/" ++ (gap_at b ++ d)) (gap-utf8 a)
+    (utf8-append (codes "/") (gap_at b ++ d) slash-utf8 (utf8-append (gap_at b) d (gap-utf8 b) k)))
+
 -- the text of components, before a rest, is this one's
 on-text : (cs : List Component) (v rest : List ℕ) → text_of cs ≡ v → ReadsOn cs rest → ReadsTo (v ++ rest) (words_all cs) rest
 on-text cs v rest e r = subst (λ (t : List ℕ). ReadsTo (t ++ rest) (words_all cs) rest) e r
 
 module _ (laws : WordLaws) where
   -- A token that is a value is a readable one.
-  pub token-is-value : (k : Kind) (t : List ℕ) → is_value_kind k ≡ true → spells k t ≡ true → IsValue t
-  token-is-value k t h s =
+  pub token-is-value : (k : Kind) (t : List ℕ) → is_value_kind k ≡ true → is_utf8 t ≡ true → spells k t ≡ true → IsValue t
+  token-is-value k t h u s =
       (let plain = plain-kind k h in
       let cs = single k t ∷ [] in
       let text : text_of cs ≡ t = simp (computing, append-nil) in
@@ -165,7 +182,7 @@ module _ (laws : WordLaws) where
       let whole = subst (λ (u : List ℕ). ReadsTo u (words_all cs) []) (append-nil t) (on [] (laws.alone k t plain.url plain.function s)) in
       let same : text_components t ≡ cs = text-read laws.firsts cs t (plain.formed t) text whole ∙ ap (λ (c : Component). c ∷ []) (bare-Single (record { kind = k; text = t; at = 0 })) in
       let begins : begins_none bang t ≡ true = ap (begins_none bang) (sym (append-nil t)) ∙ laws.no_bang k t [] plain.delim plain.url s in
-      made-value t cs same (token-part k t h) (token-value k t h) begins
+      made-value t cs same (token-part k t h) (token-value k t h) u begins
       (each-by (λ next. (rest : List ℕ) → StaysFirst (word_from k t) (next ++ rest)) (λ next. (rest : List ℕ) → ReadsTo (t ++ (next ++ rest)) (words_all cs) (next ++ rest)) (λ next stays rest. on (next ++ rest) (stays rest)) (behind_value t) (laws.token k t h s)))
 
   number-read : (n rest : List ℕ) → StaysFirst (word_from kinds.Number n) rest → ReadsOn (single kinds.Number n ∷ []) rest
@@ -195,13 +212,15 @@ module _ (laws : WordLaws) where
       (on-single kinds.Comment (codes "/**/") more rest refl (laws.comment (text_of more ++ rest)) (divided-read b d rest k first))
 
   -- Two numbers with `/` between them are a readable value.
-  pub ratio-is-value : (a b : Bool) (n d : List ℕ) → spells kinds.Number n ≡ true → spells kinds.Number d ≡ true → IsValue (ratio_text a b n d)
-  ratio-is-value a b n d h k =
-      (let cs = ratio_parts a b n d in
+  pub ratio-is-value : (a b : Bool) (n d : List ℕ) → is_spelled (record { kind = kinds.Number; text = n }) ≡ true → is_spelled (record { kind = kinds.Number; text = d }) ≡ true → IsValue (ratio_text a b n d)
+  ratio-is-value a b n d spelled-n spelled-d =
+      (let p = and_parts (is_utf8 n) (spells kinds.Number n) spelled-n in
+      let q = and_parts (is_utf8 d) (spells kinds.Number d) spelled-d in
+      let cs = ratio_parts a b n d in
       let v = ratio_text a b n d in
       let text = ratio-spelled a b n d in
-      let on : (rest : List ℕ) → StaysFirst (word_from kinds.Number d) rest → ReadsTo (v ++ rest) (words_all cs) rest = λ rest first. on-text cs v rest text (ratio-read a b n d rest h k first) in
-      let whole = subst (λ (u : List ℕ). ReadsTo u (words_all cs) []) (append-nil v) (on [] (laws.alone kinds.Number d refl refl k)) in
+      let on : (rest : List ℕ) → StaysFirst (word_from kinds.Number d) rest → ReadsTo (v ++ rest) (words_all cs) rest = λ rest first. on-text cs v rest text (ratio-read a b n d rest p.1 q.1 first) in
+      let whole = subst (λ (u : List ℕ). ReadsTo u (words_all cs) []) (append-nil v) (on [] (laws.alone kinds.Number d refl refl q.1)) in
       let same : text_components v ≡ cs = text-read laws.firsts cs v (ratio-formed a b n d) text whole ∙ ratio-bare a b n d in
-      made-value v cs same (ratio-parts a b n d) (ratio-value a b n d) (laws.no_bang kinds.Number n (gap_at a ++ (codes "/" ++ (gap_at b ++ d))) refl refl h)
-      (each-by (λ next. (rest : List ℕ) → StaysFirst (word_from kinds.Number d) (next ++ rest)) (λ next. (rest : List ℕ) → ReadsTo (v ++ (next ++ rest)) (words_all cs) (next ++ rest)) (λ next stays rest. on (next ++ rest) (stays rest)) (behind_value v) (laws.number_behind d v k)))
+      made-value v cs same (ratio-parts a b n d) (ratio-value a b n d) (ratio-utf8 a b n d p.0 q.0) (laws.no_bang kinds.Number n (gap_at a ++ (codes "/" ++ (gap_at b ++ d))) refl refl p.1)
+      (each-by (λ next. (rest : List ℕ) → StaysFirst (word_from kinds.Number d) (next ++ rest)) (λ next. (rest : List ℕ) → ReadsTo (v ++ (next ++ rest)) (words_all cs) (next ++ rest)) (λ next stays rest. on (next ++ rest) (stays rest)) (behind_value v) (laws.number_behind d v q.1)))

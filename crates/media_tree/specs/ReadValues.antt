@@ -2,6 +2,7 @@
 -- 2.4; CSS Syntax 3, section 4).
 use Rattle.std.specs.Prelude.{ℕ, List, [], ◌∷◌, ◌++◌, ◌≡◌, true, flat_map, codes, Option, Some, None, if◌then◌else◌}
 use Rattle.std.specs.List.{AllByRecursion}
+use Rattle.std.specs.Str.{is_utf8}
 use Rattle.css_tokens.specs.Again.{bang, begins_none}
 use Rattle.css_tokens.specs.Tokens.{ReadsTo}
 use Rattle.css_tokens.specs.Trees.{words_all}
@@ -50,9 +51,10 @@ values_of qs = flat_map (λ q. values_behind q.condition) qs
 abbrev pub behind_value : List ℕ → List (List ℕ)
 behind_value value = codes ")" ∷ (if ends_in_dashes value then codes " " ∷ [] else codes "<" ∷ codes ">" ∷ codes "=" ∷ [])
 
--- A text that stands as a value: it begins with no `!`, with which a `<` before it might begin `<!--`, and before whatever may
--- stand behind a value it is read as the words of the components that it spells.
+-- A text that stands as a value: it is in UTF-8, it begins with no `!`, with which a `<` before it might begin `<!--`, and before
+-- whatever may stand behind a value it is read as the words of the components that it spells.
 pub record StandsAsValue (value : List ℕ) : Type 0 where
+  pub utf8 : is_utf8 value ≡ true
   pub begins : begins_none bang value ≡ true
   pub reads : AllByRecursion (λ next. (rest : List ℕ) → ReadsTo (value ++ (next ++ rest)) (words_all (text_components value)) (next ++ rest)) (behind_value value)
 
