@@ -10,17 +10,25 @@ use Rattle.css_tokens.specs.NameText.{name_text}
 use Rattle.css_tokens.specs.Piece.{Word, spelled}
 use Rattle.css_tokens.specs.Tokens.{bad_place, is_control, mark_length, or_else}
 use Rattle.css_tokens.specs.Trees.{words_all}
-use Rattle.css_tokens.specs.Values.{is_gap, is_white, short_word, single_gaps, after_gap, word_kind, shortened_words, printed_words, value_words}
+use Rattle.css_tokens.specs.Values.{is_gap, is_white, short_word, single_gaps, after_gap, word_kind, shortened_words, printed_words, value_text, value_words}
 use Rattle.sheet_types.specs.declared.sheet.Declaration.{Declaration}
 use Rattle.selector_types.specs.declared.selector.Selector.{Selector}
 use Rattle.selector_types.specs.Spelling.{list_text}
 use Rattle.sheet_types.specs.declared.sheet.Item.{Item}
-use Rattle.css_rules.specs.Printable.{IsPrintableDeclaration, IsPrintableLeaf, ArePrintable}
+use Rattle.sheet_types.specs.declared.sheet.GroupCondition.{GroupCondition}
+use Rattle.sheet_types.specs.declared.sheet.GroupCondition.TheVariants.{Media, Supports}
+use Rattle.sheet_types.specs.declared.sheet.Passed.{Passed}
+use Rattle.sheet_types.specs.declared.sheet.PassedKind.{PassedKind}
+use Rattle.sheet_types.specs.declared.sheet.PassedKind.TheVariants.{FontFace, Keyframes, WebkitKeyframes, MozKeyframes, Page, CounterStyle}
+use Rattle.sheet_types.specs.PassedRules.{keyword_of}
+use Rattle.sheet_types.specs.Standing.{AllStand, ConditionStands}
+use Rattle.css_rules.specs.Printable.{IsPrintableCondition, IsPrintableDeclaration, IsPrintableLeaf, IsPrintablePassed, ArePrintable}
 use Rattle.selector_types.specs.ReadableSelectors.{is_clean, is_named, is_readable_list, is_spelled}
-use Rattle.sheet_types.specs.SheetTexts.{braced_text, declaration_text, declarations_text, importance_text, items_text, more_declarations, printed_item, printed_value}
+use Rattle.sheet_types.specs.SheetTexts.{behind_keyword, braced_text, condition_text, passed_text, declaration_text, declarations_text, importance_text, items_text, more_declarations, printed_item, printed_value}
 use Rattle.css_rules.proofs.CleanNames.{clean-append, clean-parts, name-clean, plain-clean}
 use Rattle.css_rules.proofs.DeclarationLemmas.{or_false_left, or_false_right}
-use Rattle.sheet_types.proofs.ItemShapes.{TopCases, by_tops, text-empty, text-run}
+use Rattle.sheet_types.proofs.ItemShapes.{TopCases, by_tops, text-full, text-passed, text-run}
+use Rattle.css_rules.proofs.ReadyItems.{IsReady, by_ready, each-printable}
 use Rattle.css_rules.proofs.BoolLemmas.{and-left, and-right}
 use Rattle.css_rules.proofs.SoughtAgain.{any-after_gap, any-before_gap, any-parted, any-single_gaps}
 
@@ -98,9 +106,12 @@ spelled-clean [] h = plain-clean [] refl
 spelled-clean (w ∷ ws) h =
     clean-append w.text (spelled ws) (clean-not (is_clean w.text) (or_false_left (is_soiled w) (list_any is_soiled ws) h)) (spelled-clean ws (or_false_right (is_soiled w) (list_any is_soiled ws) h))
 
+words-clean : (v : List Component) → list_all is_spelled (words_all v) ≡ true → is_clean (value_text v) ≡ true
+words-clean v h = spelled-clean (value_words v) (printed-soiled (words_all v) (none-soiled (words_all v) h))
+
 value-clean : (v : List Component) → list_all is_spelled (words_all v) ≡ true → is_clean (printed_value v) ≡ true
 value-clean [] h = plain-clean (codes " ") refl
-value-clean (c ∷ cs) h = spelled-clean (value_words (c ∷ cs)) (printed-soiled (words_all (c ∷ cs)) (none-soiled (words_all (c ∷ cs)) h))
+value-clean (c ∷ cs) h = words-clean (c ∷ cs) h
 
 -- Declarations.
 
@@ -126,10 +137,25 @@ declarations-clean : (ds : List Declaration) → AllByRecursion IsPrintableDecla
 declarations-clean [] p = plain-clean [] refl
 declarations-clean (d ∷ ds) p = clean-append (declaration_text d) (more_declarations ds) (declaration-clean d p.0) (more-clean ds p.1)
 
--- what is ensured of the texts of selector lists
+-- At-keywords, and what stands behind them.
+
+keyword-clean : (kind : PassedKind) → is_clean (keyword_of kind) ≡ true
+keyword-clean FontFace = plain-clean (codes "font-face") refl
+keyword-clean Keyframes = plain-clean (codes "keyframes") refl
+keyword-clean WebkitKeyframes = plain-clean (codes "-webkit-keyframes") refl
+keyword-clean MozKeyframes = plain-clean (codes "-moz-keyframes") refl
+keyword-clean Page = plain-clean (codes "page") refl
+keyword-clean CounterStyle = plain-clean (codes "counter-style") refl
+
+pub behind-clean : (text : List ℕ) → is_clean text ≡ true → is_clean (behind_keyword text) ≡ true
+behind-clean [] h = h
+behind-clean (c ∷ text) h = clean-append (codes " ") (c ∷ text) (plain-clean (codes " ") refl) h
+
+-- what is ensured of the texts of selector lists and conditions
 pub record ListTexts : Type 0 where
   pub clean : (ss : List Selector) → IsTrue (is_readable_list false ss) → IsTrue (is_clean (list_text ss))
   pub unmarked : (ss : List Selector) (rest : List ℕ) → IsTrue (is_readable_list false ss) → mark_length (list_text ss ++ rest) ≡ 0
+  pub conditions : (c : GroupCondition) → IsPrintableCondition c → ConditionStands c → IsTrue (is_clean (condition_text c))
 
 -- Items.
 
@@ -145,32 +171,59 @@ module _ (texts : ListTexts) where
   abbrev IsClean : Item → Type 0
   IsClean x = is_clean (printed_item x).among ≡ true
 
-  clean-cases : TopCases IsPrintableLeaf IsClean
-  clean-cases = record {
-    empty = λ s none. ap is_clean (text-empty s none) ∙ plain-clean [] refl;
-    rule = λ s run fine each. ap is_clean (text-run s run) ∙ braced-clean s.selectors (run.first ∷ run.more) fine.readable each;
-  }
-
   all-clean : (xs : List Item) → AllByRecursion IsClean xs → is_clean (items_text xs) ≡ true
   all-clean [] each = plain-clean [] refl
   all-clean (x ∷ xs) each = clean-append (printed_item x).among (items_text xs) each.0 (all-clean xs each.1)
 
-  pub items-clean : (xs : List Item) → ArePrintable xs → is_clean (items_text xs) ≡ true
-  items-clean xs p = all-clean xs (by_tops IsPrintableLeaf IsClean clean-cases xs p.tops p.fine)
+  -- a block, with a line feed behind it
+  block-clean : (inside : List ℕ) → is_clean inside ≡ true → is_clean (codes "{" ++ (inside ++ (codes "}" ++ 10 ∷ []))) ≡ true
+  block-clean inside h =
+      clean-append (codes "{") (inside ++ (codes "}" ++ 10 ∷ [])) (plain-clean (codes "{") refl) (clean-append inside (codes "}" ++ 10 ∷ []) h (plain-clean (codes "}" ++ 10 ∷ []) refl))
+
+  passed-clean : (rule : Passed) → IsPrintablePassed rule → is_clean (passed_text rule) ≡ true
+  passed-clean rule fine =
+      let behind = behind_keyword (value_text rule.prelude) in
+      let inside = value_text rule.block in
+      let tail = codes "{" ++ (inside ++ (codes "}" ++ 10 ∷ [])) in
+      clean-append (codes "@") (keyword_of rule.kind ++ (behind ++ tail)) (plain-clean (codes "@") refl)
+      (clean-append (keyword_of rule.kind) (behind ++ tail) (keyword-clean rule.kind)
+      (clean-append behind tail (behind-clean (value_text rule.prelude) (words-clean rule.prelude fine.prelude.spelled)) (block-clean inside (words-clean rule.block fine.block.spelled))))
+
+  clean-cases : TopCases IsReady IsClean
+  clean-cases = record {
+    hollow = λ x none. ap is_clean none.text ∙ plain-clean [] refl;
+    rule = λ s run fine each. ap is_clean (text-run s run) ∙ braced-clean s.selectors (run.first ∷ run.more) fine.0.readable (each-printable (run.first ∷ run.more) each);
+    group = λ g full fine each.
+        let inside = 10 ∷ items_text g.items in
+        ap is_clean (text-full g full)
+        ∙ clean-append (condition_text g.condition) (codes "{" ++ (inside ++ (codes "}" ++ 10 ∷ []))) (texts.conditions g.condition fine.0 fine.1)
+        (block-clean inside (clean-append (10 ∷ []) (items_text g.items) (plain-clean (10 ∷ []) refl) (all-clean g.items each)));
+    passed = λ rule fine. ap is_clean (text-passed rule) ∙ passed-clean rule fine.0;
+  }
+
+  pub items-clean : (xs : List Item) → ArePrintable xs → AllStand xs → is_clean (items_text xs) ≡ true
+  items-clean xs p stands = all-clean xs (by_ready IsClean clean-cases xs p stands)
 
   -- no byte order mark stands at the start where none stands at the start of what follows
   abbrev IsUnmarked : Item → Type 0
   IsUnmarked x = (rest : List ℕ) → mark_length rest ≡ 0 → mark_length ((printed_item x).among ++ rest) ≡ 0
 
+  condition-unmarked : (c : GroupCondition) (behind rest : List ℕ) → mark_length ((condition_text c ++ behind) ++ rest) ≡ 0
+  condition-unmarked (Media queries) behind rest = refl
+  condition-unmarked (Supports condition) behind rest = refl
+
   unmarked-cases : TopCases IsPrintableLeaf IsUnmarked
   unmarked-cases = record {
-    empty = λ s none rest h. ap (λ t. mark_length (t ++ rest)) (text-empty s none) ∙ h;
+    hollow = λ x none rest h. ap (λ t. mark_length (t ++ rest)) none.text ∙ h;
     rule = λ s run fine each rest h.
         let list = s.selectors in
         let behind = codes "{" ++ (declarations_text (run.first ∷ run.more) ++ (codes "}" ++ 10 ∷ [])) in
         ap (λ t. mark_length (t ++ rest)) (text-run s run)
         ∙ ap mark_length (append_assoc (list_text list) behind rest)
         ∙ texts.unmarked list (behind ++ rest) fine.readable;
+    group = λ g full fine each rest h.
+        ap (λ t. mark_length (t ++ rest)) (text-full g full) ∙ condition-unmarked g.condition (codes "{" ++ (10 ∷ items_text g.items ++ (codes "}" ++ 10 ∷ []))) rest;
+    passed = λ rule fine rest h. ap (λ t. mark_length (t ++ rest)) (text-passed rule);
   }
 
   all-unmarked : (xs : List Item) → AllByRecursion IsUnmarked xs → mark_length (items_text xs) ≡ 0

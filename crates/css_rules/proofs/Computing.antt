@@ -18,7 +18,8 @@ use Rattle.selector_types.specs.declared.selector.Link.TheVariants.{outs-Linked}
 use Rattle.selector_types.specs.SelectorFold.{Steps, made_part, made_link, folded_compound, folded_selector, folded-Class, folded-Id, folded-Attribute, folded-Pseudo, folded-Not, folded-Is, folded-Where, folded-Parent, folded-Local, folded-Global, folded-Foreign, folded-Compound, folded-Selector}
 use Rattle.selector_tree.specs.Signs.{mark_of, mark_of-Single, mark_of-Block, block_mark}
 use Rattle.sheet_types.specs.Erased.{erased-Single}
-use Rattle.sheet_types.proofs.Computing.{made-plain, made-rule}
+use Rattle.media_tree.proofs.Computing.{computing as media_computing}
+use Rattle.sheet_types.proofs.Computing.{computing as item_computing, made-plain, made-rule}
 
 -- a block, and its tokens
 pub block-out : (opening : Piece) (items : List Component) (close : ℕ)
@@ -45,3 +46,6 @@ block-mark opening items close = mark_of-Block (record { opening = opening; item
 
 -- the equations by which the worked examples compute
 pub ruleset computing = (outs-Single, block-out, pieces_of-Single, block-pieces, made-plain, made-rule, shortened-Single, parted_within-Single, takes_last-Single, erased-Single, head_kind-Single, outs-Linked, folded-Class, folded-Id, folded-Attribute, folded-Pseudo, folded-Not, folded-Is, folded-Where, folded-Parent, folded-Local, folded-Global, folded-Foreign, made-compound, made-selector, mark_of-Single, block-mark)
+
+-- the same with media queries, supports conditions and groups
+pub ruleset at_rules = (computing, media_computing, item_computing)

@@ -11,7 +11,7 @@ use Rattle.css_rules.specs.Components.{head, is_single, is_gap, is_ident, is_ide
 use Rattle.css_rules.specs.Cuts.{trimmed_start}
 use Rattle.css_rules.specs.Declarations.{after_colon, begins_custom}
 use Rattle.css_rules.specs.Private.Marks.{EndsAt, is_mark}
-use Rattle.css_rules.specs.Sheets.{begins_at_rule, ends_rule, ends_item}
+use Rattle.css_rules.specs.RuleEnds.{begins_at_rule, ends_rule, ends_item}
 use Rattle.css_rules.proofs.CutLemmas.{not-true, trimmed_start-gap, trimmed_start-other}
 use Rattle.css_rules.proofs.BoolLemmas.{and-left, and-right}
 

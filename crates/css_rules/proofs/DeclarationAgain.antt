@@ -17,7 +17,8 @@ use Rattle.css_rules.specs.Components.{head, is_bang, is_braces, is_semicolon, i
 use Rattle.css_rules.specs.Cuts.{cuts_at, trimmed, trimmed_start, trimmed_end}
 use Rattle.css_rules.specs.Declarations.{property_name, after_colon, may_be_value, is_important, value_of, declared, declared_after, declaration_of, begins_custom}
 use Rattle.css_rules.specs.Refusals.{has_sought, is_unbuilt_property, sought_for}
-use Rattle.css_rules.specs.Sheets.{begins_at_rule, built, ends_in_braces, ends_item, is_unbuilt, item_of, plain_item}
+use Rattle.css_rules.specs.Sheets.{built, is_unbuilt, item_of, plain_item}
+use Rattle.css_rules.specs.RuleEnds.{begins_at_rule, ends_in_braces, ends_item}
 use Rattle.sheet_types.specs.Statements.{bare_declaration}
 use Rattle.css_rules.specs.Printable.{IsPrintableDeclaration, begins_solid}
 use Rattle.css_rules.proofs.Heads.{word, single_of}

@@ -12,7 +12,8 @@ use Rattle.css_rules.specs.Components.{head, is_ident, is_colon, is_bang, is_bra
 use Rattle.css_rules.specs.Cuts.{Cut, cuts, cuts_at, trimmed, trimmed_start}
 use Rattle.css_rules.specs.Declarations.{property_name, after_colon, may_be_value, is_important, value_of, declared, declared_after, declaration_of, begins_custom}
 use Rattle.css_rules.specs.Printable.{IsPrintableDeclaration, begins_solid}
-use Rattle.css_rules.specs.Sheets.{ends_item, is_unbuilt, item_of, declarations_of}
+use Rattle.css_rules.specs.Sheets.{is_unbuilt, item_of, declarations_of}
+use Rattle.css_rules.specs.RuleEnds.{ends_item}
 use Rattle.css_rules.proofs.FromSourceNames.{property-named, property-custom, property-again}
 use Rattle.css_rules.proofs.FromSourceParts.{is_sound, sound-formed, sound-spelled, sound-ident, none-any, all-start, all-trimmed, trimmed-begins, IsPart, parts-cuts}
 use Rattle.css_rules.proofs.ReadAllLemmas.{read_all-holds}
@@ -44,8 +45,8 @@ trimmed-value cut f s = record {
   begun = trimmed-begins cut.front;
   bangless = none-any is_bang (trimmed cut.front) (all-trimmed (λ c. not (is_bang c)) cut.front f.unmarked);
   undivided = none-any is_semicolon (trimmed cut.front) (all-trimmed not_semicolon cut.front s.kept);
-  formed = sound-formed (trimmed cut.front) (all-trimmed is_sound cut.front f.kept);
-  spelled = sound-spelled (trimmed cut.front) (all-trimmed is_sound cut.front f.kept);
+  formed = sound-formed is_spelled (trimmed cut.front) (all-trimmed is_sound cut.front f.kept);
+  spelled = sound-spelled is_spelled (trimmed cut.front) (all-trimmed is_sound cut.front f.kept);
 }
 
 marked-value : (b important : Bool) (v : List Component) → IsValue v → ReadsValue (if b then Some (v, important) else None)

@@ -11,7 +11,7 @@ use Rattle.css_tokens.specs.declared.component.Component.TheOpen.{Component-F, S
 use Rattle.css_tokens.specs.declared.component.Component.TheFolds.{fold-Component, fold_out-Component}
 use Rattle.css_tokens.specs.declared.kind.Kind.{Kind}
 use Rattle.css_tokens.specs.declared.kind.Kind.TheVariants as kinds
-use Rattle.css_tokens.specs.Piece.{Piece, word_of}
+use Rattle.css_tokens.specs.Piece.{Piece, Word, word_of}
 use Rattle.css_tokens.specs.Names.{is_name, name_of_word}
 use Rattle.css_tokens.specs.Trees.{pieces_of, pieces_all, words_all, closing, component_pieces, block_pieces, component_formed, block_formed, is_formed, all_formed, opens}
 use Rattle.css_rules.specs.Components.{Layer, head, inside, layer_head, layer_items, layer_is_single, is_ident, is_ident_kind, is_gap, name_of}
@@ -39,7 +39,7 @@ pub all-start : (test : Component → Bool) (cs : List Component) → list_all t
 all-start test [] e = refl
 all-start test (c ∷ cs) e = at-gap test (is_gap c) (trimmed_start cs) (c ∷ cs) (all-start test cs (and-right (test c) (list_all test cs) e)) e
 
-all-end : (test : Component → Bool) (cs : List Component) → list_all test cs ≡ true → list_all test (trimmed_end cs) ≡ true
+pub all-end : (test : Component → Bool) (cs : List Component) → list_all test cs ≡ true → list_all test (trimmed_end cs) ≡ true
 all-end test [] e = refl
 all-end test (c ∷ cs) e =
     let rest = all-end test cs (and-right (test c) (list_all test cs) e) in
@@ -92,38 +92,42 @@ parts-cuts test mark ends always before (c ∷ cs) e =
     no-mark true is other = sym (always before c is) ∙ other
     no-mark false is other = refl
 
--- Components that are well formed and whose Idents spell Idents.
+-- Components that are well formed and whose words pass a test.
 
+abbrev pub sound_by : (Word → Bool) → Component → Bool
+sound_by good c = is_formed c && list_all good (map word_of (pieces_of c))
+
+-- Their Idents spell Idents.
 abbrev pub is_sound : Component → Bool
-is_sound c = is_formed c && list_all is_spelled (map word_of (pieces_of c))
+is_sound c = sound_by is_spelled c
 
-spelled-append : (a b : List Piece) → list_all is_spelled (map word_of (a ++ b)) ≡ (list_all is_spelled (map word_of a) && list_all is_spelled (map word_of b))
-spelled-append a b = ap (list_all is_spelled) (map-append word_of a b) ∙ list_all-append is_spelled (map word_of a) (map word_of b)
+good-append : (good : Word → Bool) (a b : List Piece) → list_all good (map word_of (a ++ b)) ≡ (list_all good (map word_of a) && list_all good (map word_of b))
+good-append good a b = ap (list_all good) (map-append word_of a b) ∙ list_all-append good (map word_of a) (map word_of b)
 
-pub all-sound : (cs : List Component) → all_formed cs ≡ true → list_all is_spelled (words_all cs) ≡ true → list_all is_sound cs ≡ true
-all-sound [] f s = refl
-all-sound (c ∷ cs) f s =
-    let both = sym (spelled-append (pieces_of c) (pieces_all cs)) ∙ s in
-    let here = list_all is_spelled (map word_of (pieces_of c)) in
-    let rest = list_all is_spelled (words_all cs) in
-    and-both (is_sound c) (list_all is_sound cs)
+pub all-sound : (good : Word → Bool) (cs : List Component) → all_formed cs ≡ true → list_all good (words_all cs) ≡ true → list_all (sound_by good) cs ≡ true
+all-sound good [] f s = refl
+all-sound good (c ∷ cs) f s =
+    let both = sym (good-append good (pieces_of c) (pieces_all cs)) ∙ s in
+    let here = list_all good (map word_of (pieces_of c)) in
+    let rest = list_all good (words_all cs) in
+    and-both (sound_by good c) (list_all (sound_by good) cs)
     (and-both (is_formed c) here (and-left (is_formed c) (all_formed cs) f) (and-left here rest both))
-    (all-sound cs (and-right (is_formed c) (all_formed cs) f) (and-right here rest both))
+    (all-sound good cs (and-right (is_formed c) (all_formed cs) f) (and-right here rest both))
 
-pub sound-formed : (cs : List Component) → list_all is_sound cs ≡ true → all_formed cs ≡ true
-sound-formed [] e = refl
-sound-formed (c ∷ cs) e =
+pub sound-formed : (good : Word → Bool) (cs : List Component) → list_all (sound_by good) cs ≡ true → all_formed cs ≡ true
+sound-formed good [] e = refl
+sound-formed good (c ∷ cs) e =
     and-both (is_formed c) (all_formed cs)
-    (and-left (is_formed c) (list_all is_spelled (map word_of (pieces_of c))) (and-left (is_sound c) (list_all is_sound cs) e))
-    (sound-formed cs (and-right (is_sound c) (list_all is_sound cs) e))
+    (and-left (is_formed c) (list_all good (map word_of (pieces_of c))) (and-left (sound_by good c) (list_all (sound_by good) cs) e))
+    (sound-formed good cs (and-right (sound_by good c) (list_all (sound_by good) cs) e))
 
-pub sound-spelled : (cs : List Component) → list_all is_sound cs ≡ true → list_all is_spelled (words_all cs) ≡ true
-sound-spelled [] e = refl
-sound-spelled (c ∷ cs) e =
-    spelled-append (pieces_of c) (pieces_all cs)
-    ∙ and-both (list_all is_spelled (map word_of (pieces_of c))) (list_all is_spelled (words_all cs))
-    (and-right (is_formed c) (list_all is_spelled (map word_of (pieces_of c))) (and-left (is_sound c) (list_all is_sound cs) e))
-    (sound-spelled cs (and-right (is_sound c) (list_all is_sound cs) e))
+pub sound-spelled : (good : Word → Bool) (cs : List Component) → list_all (sound_by good) cs ≡ true → list_all good (words_all cs) ≡ true
+sound-spelled good [] e = refl
+sound-spelled good (c ∷ cs) e =
+    good-append good (pieces_of c) (pieces_all cs)
+    ∙ and-both (list_all good (map word_of (pieces_of c))) (list_all good (words_all cs))
+    (and-right (is_formed c) (list_all good (map word_of (pieces_of c))) (and-left (sound_by good c) (list_all (sound_by good) cs) e))
+    (sound-spelled good cs (and-right (sound_by good c) (list_all (sound_by good) cs) e))
 
 -- What stands in a block is so.
 
@@ -147,21 +151,26 @@ block-formed c b e =
     ∙ block.fold_out-Block Bool Bool component_formed block_formed b
     ∙ ap (λ r. opens b.opening.kind && r) (list_all-map (λ formed. formed) is_formed b.items)
 
-items-spelled : (c : Component) (b : block.Block) → out-Component c ≡ Block b → list_all is_spelled (map word_of (pieces_of c)) ≡ true → list_all is_spelled (words_all b.items) ≡ true
-items-spelled c b e s =
-    let last = closing b.opening b.close ∷ [] in
-    let all = sym (ap (λ ps. list_all is_spelled (map word_of ps)) (block-pieces c b e)) ∙ s in
-    let items = and-right (is_spelled (word_of b.opening)) (list_all is_spelled (map word_of (pieces_all b.items ++ last))) all in
-    and-left (list_all is_spelled (words_all b.items)) (list_all is_spelled (map word_of last)) (sym (spelled-append (pieces_all b.items) last) ∙ items)
-
-pub sound-inside : (c : Component) → is_sound c ≡ true → list_all is_sound (inside c) ≡ true
-sound-inside c e = at (out-Component c) refl
+pub formed-inside : (c : Component) → is_formed c ≡ true → all_formed (inside c) ≡ true
+formed-inside c e = at (out-Component c) refl
   where
-    at : (v : Layer) → out-Component c ≡ v → list_all is_sound (layer_items v) ≡ true
+    at : (v : Layer) → out-Component c ≡ v → all_formed (layer_items v) ≡ true
     at (Single p) is = refl
-    at (Block b) is = all-sound b.items
-        (and-right (opens b.opening.kind) (all_formed b.items) (sym (block-formed c b is) ∙ and-left (is_formed c) (list_all is_spelled (map word_of (pieces_of c))) e))
-        (items-spelled c b is (and-right (is_formed c) (list_all is_spelled (map word_of (pieces_of c))) e))
+    at (Block b) is = and-right (opens b.opening.kind) (all_formed b.items) (sym (block-formed c b is) ∙ e)
+
+items-good : (good : Word → Bool) (c : Component) (b : block.Block) → out-Component c ≡ Block b → list_all good (map word_of (pieces_of c)) ≡ true → list_all good (words_all b.items) ≡ true
+items-good good c b e s =
+    let last = closing b.opening b.close ∷ [] in
+    let all = sym (ap (λ ps. list_all good (map word_of ps)) (block-pieces c b e)) ∙ s in
+    let items = and-right (good (word_of b.opening)) (list_all good (map word_of (pieces_all b.items ++ last))) all in
+    and-left (list_all good (words_all b.items)) (list_all good (map word_of last)) (sym (good-append good (pieces_all b.items) last) ∙ items)
+
+pub sound-inside : (good : Word → Bool) (c : Component) → sound_by good c ≡ true → list_all (sound_by good) (inside c) ≡ true
+sound-inside good c e = all-sound good (inside c) (formed-inside c (and-left (is_formed c) (list_all good (map word_of (pieces_of c))) e)) (at (out-Component c) refl)
+  where
+    at : (v : Layer) → out-Component c ≡ v → list_all good (words_all (layer_items v)) ≡ true
+    at (Single p) is = refl
+    at (Block b) is = items-good good c b is (and-right (is_formed c) (list_all good (map word_of (pieces_of c))) e)
 
 -- An Ident has a name.
 

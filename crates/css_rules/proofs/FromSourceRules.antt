@@ -1,34 +1,41 @@
 -- What a list of components without refusals is read as is printable.
-use Rattle.std.proofs.Common.{◌≡◌, List, [], ◌∷◌, ◌++◌, map, true, false, refl, sym, ◌∙◌, ◌&&◌, ◌||◌, ap, subst, Some, MatchOption, inl, inr, IsTrue}
+use Rattle.std.proofs.Common.{◌≡◌, ℕ, List, [], ◌∷◌, ◌++◌, map, true, false, refl, sym, ◌∙◌, ap, subst, Some, IsTrue}
 use Rattle.std.specs.List.{list_all, AllByRecursion}
 use Rattle.std.proofs.lemmas.List.Folds.{list_all-append}
 use Rattle.std.specs.Prelude.{Ok}
 use Rattle.std.proofs.lemmas.List.Concat.{flat_map-append}
 use Rattle.css_tokens.specs.declared.component.Component.{Component}
 use Rattle.css_tokens.specs.Trees.{all_formed, words_all}
+use Rattle.media_tree.specs.SpelledWords.{AreRead}
 use Rattle.selector_types.specs.declared.selector.Selector.{Selector}
 use Rattle.sheet_types.specs.declared.sheet.Sheet.{Sheet}
 use Rattle.sheet_types.specs.declared.sheet.Declaration.{Declaration}
+use Rattle.sheet_types.specs.declared.sheet.Group as group
+use Rattle.sheet_types.specs.declared.sheet.GroupCondition.{GroupCondition}
 use Rattle.sheet_types.specs.declared.sheet.Item.{Item}
 use Rattle.sheet_types.specs.declared.sheet.Item as item
+use Rattle.sheet_types.specs.declared.sheet.Passed.{Passed}
 use Rattle.sheet_types.specs.declared.sheet.Style as style
 use Rattle.selector_tree.specs.Signs.{list_reading}
 use Rattle.selector_types.specs.Spelling.{list_spelling}
-use Rattle.css_rules.specs.Components.{inside, is_braces, is_semicolon}
-use Rattle.css_rules.specs.Cuts.{Cut, cuts, trimmed_start}
-use Rattle.sheet_types.specs.Leaves.{IsTop, OfDeclaration, all_leaves, leaves, rule_leaves}
-use Rattle.css_rules.specs.Printable.{is_whole, all_whole, IsPrintableDeclaration, IsPrintableLeaf, ArePrintable}
+use Rattle.css_rules.specs.Components.{inside}
+use Rattle.css_rules.specs.Cuts.{Cut}
+use Rattle.sheet_types.specs.Leaves.{IsTop, Leaf, OfDeclaration, all_leaves, group_leaves, leaves, rule_leaves}
+use Rattle.css_rules.specs.Printable.{is_whole, is_whole_condition, all_whole, IsPrintableCondition, IsPrintableDeclaration, IsPrintableLeaf, ArePrintable}
 use Rattle.css_rules.specs.Refusals.{has_waiting}
 use Rattle.selector_types.specs.ReadableSelectors.{is_readable_list, is_spelled, is_writable_list}
-use Rattle.css_rules.specs.Sheets.{begins_at_rule, ends_rule, rule_of, sheet_of}
+use Rattle.css_rules.specs.Sheets.{sheet_of}
 use Rattle.sheet_types.specs.Runs.{run_of}
 use Rattle.css_rules.proofs.BoolLemmas.{and-left, and-right}
+use Rattle.css_rules.proofs.ConditionsRead.{ConditionLaws, condition-printable}
 use Rattle.css_rules.proofs.FromSourceDeclarations.{each-append, block-printable}
+use Rattle.css_rules.proofs.FromSourceParts.{is_sound, all-sound, sound-formed, sound-spelled}
+use Rattle.css_rules.proofs.GroupLeaves.{leaves-Group, leaves-Passed, leaves-Other, top-Group, top-Passed, top-Other}
 use Rattle.sheet_types.proofs.ItemShapes.{leaves-hold, only-leaves, rule-top}
 use Rattle.css_rules.proofs.ListsRead.{list-found}
-use Rattle.css_rules.proofs.ReadAllLemmas.{read_all-holds}
-use Rattle.css_rules.proofs.RuleShapes.{prelude-shape, rule-shape, sheet-items}
-use Rattle.css_rules.proofs.FromSourceParts.{is_sound, all-sound, sound-spelled, sound-inside, IsPart, parts-cuts}
+use Rattle.css_rules.proofs.RuleShapes.{IsStyled, prelude-shape, sheet-items}
+use Rattle.css_rules.proofs.SourceRules.{AreStopped, IsReadPassed, ReadCases, items-hold}
+use Rattle.css_rules.proofs.StandLists.{ReadingLaws}
 use Rattle.css_rules.proofs.WaitingSigns.{spelling-calm}
 
 -- what is ensured of selector lists: what is read can be spelled, where nothing in it cannot be written
@@ -70,22 +77,75 @@ both-printable xs ys h k whole =
       fine = subst (AllByRecursion IsPrintableLeaf) (sym apart) (each-append IsPrintableLeaf (all_leaves xs) (all_leaves ys) a.fine b.fine);
     }
 
-module _ (lists : ListReadable) where
-  rule-printable : (cut : Cut) (items : List Item) → IsPart is_sound is_braces cut → rule_of cut ≡ Some items → WholePrintable items
-  rule-printable cut items part e = elim (rule-shape cut items e) [
-    | inl none ↦ subst WholePrintable (sym none) (λ whole. record { tops = tt; fine = tt })
-    | inr s ↦
-        let prelude = prelude-shape cut.front s.list s.prelude in
-        let read = list-found cut.front s.list prelude.spelled in
-        let closed : is_sound s.block ≡ true = subst (λ o. MatchOption o (Unit {0}) (λ c. is_sound c ≡ true)) s.mark part.closed in
-        subst WholePrintable (sym s.is)
-        (style-printable (record { selectors = s.list; items = run_of s.ds; at = s.at }) s.ds refl
-        (record { readable = lists cut.front s.list (sound-spelled cut.front part.kept) read; built = spelling-calm cut.front s.list prelude.built read })
-        (block-printable (inside s.block) s.ds (sound-inside s.block closed) s.inner))
-  ]
+-- Groups and other at-rules.
 
-  pub sheet-printable : (cs : List Component) (sheet : Sheet) → sheet_of cs ≡ Some sheet → all_formed cs ≡ true → list_all is_spelled (words_all cs) ≡ true → all_whole sheet ≡ true → ArePrintable sheet.items
-  sheet-printable cs sheet e formed spelled =
-      read_all-holds WholePrintable (IsPart is_sound is_braces) rule_of (λ whole. record { tops = tt; fine = tt }) both-printable rule-printable (cuts ends_rule cs)
-      (parts-cuts is_sound is_braces ends_rule (λ before c s. ap (λ b. b || (is_semicolon c && begins_at_rule (trimmed_start before))) s) [] cs (all-sound cs formed spelled))
+group-whole : (c : GroupCondition) (ls : List Leaf) → list_all is_whole (group_leaves c ls) ≡ true → list_all is_whole ls ≡ true
+group-whole c [] whole = refl
+group-whole c (l ∷ ls) whole = and-right (is_whole_condition c) (list_all is_whole (l ∷ ls)) whole
+
+group-fine : (c : GroupCondition) (ls : List Leaf) → (is_whole_condition c ≡ true → IsPrintableCondition c) → AllByRecursion IsPrintableLeaf ls → list_all is_whole (group_leaves c ls) ≡ true
+    → AllByRecursion IsPrintableLeaf (group_leaves c ls)
+group-fine c [] fine each whole = tt
+group-fine c (l ∷ ls) fine each whole = (fine (and-left (is_whole_condition c) (list_all is_whole (l ∷ ls)) whole), each)
+
+group-printable : (g : group.Group) → (is_whole_condition g.condition ≡ true → IsPrintableCondition g.condition) → WholePrintable g.items → WholePrintable (item.Group g ∷ [])
+group-printable g fine inner whole =
+    let same = leaves-Group g in
+    let all = sym (ap (list_all is_whole) same) ∙ whole in
+    let within = inner (group-whole g.condition (all_leaves g.items) all) in
+    record {
+      tops = (top-Group g within.tops, tt);
+      fine = subst (AllByRecursion IsPrintableLeaf) (sym same) (group-fine g.condition (all_leaves g.items) fine within.fine all);
+    }
+
+passed-printable : (rule : Passed) → IsReadPassed is_spelled rule → WholePrintable (item.Passed rule ∷ [])
+passed-printable rule r whole = record {
+  tops = (top-Passed rule, tt);
+  fine = subst (AllByRecursion IsPrintableLeaf) (sym (leaves-Passed rule)) (
+    record {
+      fits = r.fits;
+      whole = r.whole;
+      undivided = r.undivided;
+      prelude = record { built = r.calm_prelude; formed = sound-formed is_spelled rule.prelude r.prelude.sound; spelled = sound-spelled is_spelled rule.prelude r.prelude.sound };
+      block = record { built = r.calm_block; formed = sound-formed is_spelled rule.block r.block.sound; spelled = sound-spelled is_spelled rule.block r.block.sound };
+    },
+    tt,
+  );
+}
+
+other-printable : (at : ℕ) → WholePrintable (item.Other at ∷ [])
+other-printable at whole = record { tops = (top-Other at, tt); fine = subst (AllByRecursion IsPrintableLeaf) (sym (leaves-Other at)) tt }
+
+-- Sheets.
+
+-- what is ensured of what is read
+pub record SourceLaws : Type 0 where
+  pub lists : ListReadable
+  pub conditions : ConditionLaws
+  pub reading : ReadingLaws
+
+module _ (laws : SourceLaws) where
+  style-read : (cut : Cut) (items : List Item) (s : IsStyled cut items) → list_all is_sound cut.front ≡ true → AreStopped is_spelled (inside s.block) → WholePrintable items
+  style-read cut items s sound block =
+      let prelude = prelude-shape cut.front s.list s.prelude in
+      let read = list-found cut.front s.list prelude.spelled in
+      subst WholePrintable (sym s.is)
+      (style-printable (record { selectors = s.list; items = run_of s.ds; at = s.at }) s.ds refl
+      (record { readable = laws.lists cut.front s.list (sound-spelled is_spelled cut.front sound) read; built = spelling-calm cut.front s.list prelude.built read })
+      (block-printable (inside s.block) s.ds block.sound s.inner))
+
+  cases : ReadCases is_spelled WholePrintable
+  cases = record {
+    nothing = λ whole. record { tops = tt; fine = tt };
+    both = both-printable;
+    style = style-read;
+    group = λ g prelude stopped read inner. group-printable g (condition-printable laws.conditions g.condition prelude stopped read) inner;
+    passed = passed-printable;
+    other = other-printable;
+  }
+
+  pub sheet-printable : (cs : List Component) (sheet : Sheet) → sheet_of cs ≡ Some sheet → all_formed cs ≡ true → list_all is_spelled (words_all cs) ≡ true → AreRead cs → all_whole sheet ≡ true → ArePrintable sheet.items
+  sheet-printable cs sheet e formed spelled read =
+      items-hold laws.reading is_spelled WholePrintable cases cs
+      (record { sound = all-sound is_spelled cs formed spelled; behind = read.behind; stands = record { reads = read.reads } })
       sheet.items (sheet-items cs sheet e)

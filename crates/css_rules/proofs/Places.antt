@@ -1,5 +1,5 @@
 -- The tree that is read of a sheet, places aside, does not depend on the places of its tokens.
-use Rattle.std.proofs.Common.{◌≡◌, ℕ, List, [], ◌∷◌, map, Bool, true, false, ◌||◌, ◌&&◌, cond, Option, Some, None, option_map, refl, sym, ◌∙◌, ap, IsTrue}
+use Rattle.std.proofs.Common.{◌≡◌, ℕ, List, [], ◌∷◌, map, Bool, true, false, ◌||◌, ◌&&◌, cond, Option, Some, None, option_map, refl, sym, ◌∙◌, ap, IsTrue, MatchOption}
 use Rattle.css_tokens.specs.declared.component.Component.{Component}
 use Rattle.css_tokens.specs.Trees.{words_all, all_formed, is_formed}
 use Rattle.std.specs.List.{AllByRecursion}
@@ -14,10 +14,16 @@ use Rattle.css_rules.specs.Components.{inside, is_braces, is_semicolon}
 use Rattle.css_rules.specs.Cuts.{Cut, cuts, trimmed, trimmed_start}
 use Rattle.css_rules.specs.ReadAll.{joined, read_all}
 use Rattle.css_rules.specs.Refusals.{has_waiting}
-use Rattle.css_rules.specs.Sheets.{begins_at_rule, ends_rule, declarations_of, prelude_of, style_with, leftover, style_of, sheet_of}
+use Rattle.css_rules.specs.AtRules.{at_rule_of, behind_keyword}
+use Rattle.css_rules.specs.NestedRules.{in_block}
+use Rattle.css_rules.specs.Sheets.{at_rule_items, declarations_of, first_place, prelude_of, reading, rules_of, style_with, leftover, style_of, sheet_of}
+use Rattle.css_rules.specs.RuleEnds.{begins_at_rule, block_of, ends_in_braces, ends_rule}
 use Rattle.sheet_types.specs.Runs.{run_of}
-use Rattle.css_rules.proofs.BareLemmas.{bare-rule, bare-sheet_of, bare_rule_of}
-use Rattle.css_rules.proofs.FromSourceParts.{IsPart, parts-cuts}
+use Rattle.css_rules.proofs.BareLemmas.{bare-rule, bare-rules_of, bare-sheet_of, bare_rule_of}
+use Rattle.css_rules.proofs.BoolLemmas.{and-right}
+use Rattle.css_rules.proofs.FromSourceParts.{IsPart, all-trimmed, formed-inside, parts-cuts}
+use Rattle.css_rules.proofs.NestedRules.{InBlocks, OfMark, by_blocks}
+use Rattle.css_rules.proofs.PlacesAtRules.{ConditionPlaces, at_rule_items-erased}
 use Rattle.sheet_types.proofs.PlacesTrees.{OnePairing, all_formed-erased, same-erased, words-erased}
 use Rattle.css_rules.proofs.WaitingLemmas.{waiting-words}
 use Rattle.sheet_types.specs.Erased.{erased}
@@ -67,31 +73,66 @@ style-erased places prelude (Some block) formed =
     (ap (option_map (map bared)) (declarations-erased (inside block)) ∙ declarations-bare (declarations_of (inside block)))
     ∙ sym (style-bare _ (prelude_of prelude) (declarations_of (inside block)))
 
-rule-erased : ListPlaces → (cut : Cut) → all_formed cut.front ≡ true → bare_rule_of (erased_cut cut) ≡ bare_rule_of cut
-rule-erased places cut formed =
-    ap (λ b. option_map bare_items (cond b None (style_of (map erased cut.front) (option_map erased cut.mark)))) (ap begins_at_rule (trimmed-erased cut.front) ∙ at_rule-erased (trimmed cut.front))
+-- what is ensured of all that stands before blocks
+pub record PreludePlaces : Type 0 where
+  pub lists : ListPlaces
+  pub conditions : ConditionPlaces
+
+-- Its rules are read as the same, places aside.
+abbrev IsSame : List Component → Type 0
+IsSame cs = all_formed cs ≡ true → option_map bare_items (rules_of (map erased cs)) ≡ option_map bare_items (rules_of cs)
+
+block-same : (mark : Option Component) → MatchOption mark (Unit {0}) (λ c. is_formed c ≡ true) → MatchOption mark (Unit {0}) (λ c. IsSame (inside c))
+    → MatchOption mark (Unit {0}) (λ c. option_map bare_items (rules_of (map erased (inside c))) ≡ option_map bare_items (rules_of (inside c)))
+block-same None formed same = tt
+block-same (Some c) formed same = same (formed-inside c formed)
+
+behind-formed : (cs : List Component) → all_formed cs ≡ true → all_formed (behind_keyword cs) ≡ true
+behind-formed [] formed = refl
+behind-formed (c ∷ cs) formed = all-trimmed is_formed cs (and-right (is_formed c) (all_formed cs) formed)
+
+rule-erased : PreludePlaces → (cut : Cut) → IsPart is_formed is_braces cut → OfMark (λ c. IsSame (inside c)) cut → bare_rule_of (erased_cut cut) ≡ bare_rule_of cut
+rule-erased places cut part same =
+    let mark = option_map erased cut.mark in
+    let inner = in_block reading rules_of mark in
+    let style = style_of (map erased cut.front) mark in
+    ap (λ (cs : List Component). option_map bare_items (cond (begins_at_rule cs) (at_rule_items (first_place cs 0) (at_rule_of cs (ends_in_braces mark)) (block_of mark) inner) style)) (trimmed-erased cut.front)
+    ∙ ap (λ b. option_map bare_items (cond b (at_rule_items (first_place (map erased (trimmed cut.front)) 0) (at_rule_of (map erased (trimmed cut.front)) (ends_in_braces mark)) (block_of mark) inner) style))
+    (at_rule-erased (trimmed cut.front))
     ∙ at (begins_at_rule (trimmed cut.front))
   where
-    at : (b : Bool) → option_map bare_items (cond b None (style_of (map erased cut.front) (option_map erased cut.mark))) ≡ option_map bare_items (cond b None (style_of cut.front cut.mark))
-    at true = refl
-    at false = style-erased places cut.front cut.mark formed
+    at : (b : Bool)
+        → option_map bare_items (cond b (at_rule_items (first_place (map erased (trimmed cut.front)) 0) (at_rule_of (map erased (trimmed cut.front)) (ends_in_braces (option_map erased cut.mark)))
+        (block_of (option_map erased cut.mark)) (in_block reading rules_of (option_map erased cut.mark))) (style_of (map erased cut.front) (option_map erased cut.mark)))
+        ≡ option_map bare_items (cond b (at_rule_items (first_place (trimmed cut.front) 0) (at_rule_of (trimmed cut.front) (ends_in_braces cut.mark)) (block_of cut.mark) (in_block reading rules_of cut.mark))
+        (style_of cut.front cut.mark))
+    at true =
+        at_rule_items-erased places.conditions (first_place (map erased (trimmed cut.front)) 0) (first_place (trimmed cut.front) 0) (trimmed cut.front) cut.mark
+        (behind-formed (trimmed cut.front) (all-trimmed is_formed cut.front part.kept)) (block-same cut.mark part.closed same)
+    at false = style-erased places.lists cut.front cut.mark part.kept
 
-rules-erased : ListPlaces → (ks : List Cut) → AllByRecursion (IsPart is_formed is_braces) ks → read_all bare_rule_of (map erased_cut ks) ≡ read_all bare_rule_of ks
-rules-erased places [] each = refl
-rules-erased places (k ∷ ks) each =
-    ap (λ o. joined o (read_all bare_rule_of (map erased_cut ks))) (rule-erased places k each.0.kept)
-    ∙ ap (joined (bare_rule_of k)) (rules-erased places ks each.1)
+rules-erased : PreludePlaces → (ks : List Cut) → AllByRecursion (IsPart is_formed is_braces) ks → InBlocks IsSame ks → read_all bare_rule_of (map erased_cut ks) ≡ read_all bare_rule_of ks
+rules-erased places [] each within = refl
+rules-erased places (k ∷ ks) each within =
+    ap (λ o. joined o (read_all bare_rule_of (map erased_cut ks))) (rule-erased places k each.0 within.0)
+    ∙ ap (joined (bare_rule_of k)) (rules-erased places ks each.1 within.1)
+
+block-erased : PreludePlaces → (cs : List Component) → InBlocks IsSame (cuts ends_rule cs) → IsSame cs
+block-erased places cs within formed =
+    bare-rules_of (map erased cs)
+    ∙ ap (read_all bare_rule_of) (cuts-erased ends_rule ends_rule-erased [] cs)
+    ∙ rules-erased places (cuts ends_rule cs) (parts-cuts is_formed is_braces ends_rule (λ before c s. ap (λ b. b || (is_semicolon c && begins_at_rule (trimmed_start before))) s) [] cs formed) within
+    ∙ sym (bare-rules_of cs)
 
 -- a sheet is read as the same tree with each place at 0
-sheet-erased : ListPlaces → (cs : List Component) → all_formed cs ≡ true → option_map bare_sheet (sheet_of (map erased cs)) ≡ option_map bare_sheet (sheet_of cs)
+sheet-erased : PreludePlaces → (cs : List Component) → all_formed cs ≡ true → option_map bare_sheet (sheet_of (map erased cs)) ≡ option_map bare_sheet (sheet_of cs)
 sheet-erased places cs formed =
-    bare-sheet_of (map erased cs)
-    ∙ ap (read_all bare_rule_of) (cuts-erased ends_rule ends_rule-erased [] cs)
-    ∙ rules-erased places (cuts ends_rule cs) (parts-cuts is_formed is_braces ends_rule (λ before c s. ap (λ b. b || (is_semicolon c && begins_at_rule (trimmed_start before))) s) [] cs formed)
-    ∙ sym (bare-sheet_of cs)
+    bare-sheet_of (map erased cs) ∙ sym (bare-rules_of (map erased cs))
+    ∙ by_blocks IsSame (block-erased places) cs formed
+    ∙ bare-rules_of cs ∙ sym (bare-sheet_of cs)
 
 -- the same words have the same tree, or none has
-pub sheet-places : OnePairing → ListPlaces → (a b : List Component) → words_all a ≡ words_all b → IsTrue (all_formed a) → IsTrue (all_formed b) → option_map bare_sheet (sheet_of a) ≡ option_map bare_sheet (sheet_of b)
+pub sheet-places : OnePairing → PreludePlaces → (a b : List Component) → words_all a ≡ words_all b → IsTrue (all_formed a) → IsTrue (all_formed b) → option_map bare_sheet (sheet_of a) ≡ option_map bare_sheet (sheet_of b)
 sheet-places one places a b words formed_a formed_b =
     sym (sheet-erased places a formed_a)
     ∙ ap (λ cs. option_map bare_sheet (sheet_of cs)) (same-erased one a b words formed_a formed_b)

@@ -11,7 +11,8 @@ use Rattle.css_rules.specs.Declarations.{property_name, after_colon, may_be_valu
 use Rattle.css_rules.specs.declared.refusal.Sought.{Sought}
 use Rattle.css_rules.specs.ReadAll.{read_all}
 use Rattle.css_rules.specs.Refusals.{has_sought, is_unbuilt_property, sought_for}
-use Rattle.css_rules.specs.Sheets.{begins_at_rule, built, declarations_of, ends_in_braces, ends_item, ends_rule, is_rule, is_unbuilt, item_of, plain_item}
+use Rattle.css_rules.specs.Sheets.{built, declarations_of, is_rule, is_unbuilt, item_of, plain_item}
+use Rattle.css_rules.specs.RuleEnds.{begins_at_rule, ends_in_braces, ends_item, ends_rule}
 use Rattle.css_rules.proofs.ReadAllLemmas.{mapped-all}
 use Rattle.css_rules.proofs.SoughtAgain.{sought-words, word_sought}
 use Rattle.sheet_types.specs.BareItems.{bared}
@@ -187,7 +188,7 @@ ends_rule-erased before c =
     ∙ ap (λ b. is_braces c || (b && begins_at_rule (trimmed_start (map erased before)))) (semicolon-erased c)
     ∙ ap (λ b. is_braces c || (is_semicolon c && b)) (ap begins_at_rule (start-erased before) ∙ at_rule-erased (trimmed_start before))
 
-mark-erased : (o : Option Component) → ends_in_braces (option_map erased o) ≡ ends_in_braces o
+pub mark-erased : (o : Option Component) → ends_in_braces (option_map erased o) ≡ ends_in_braces o
 mark-erased None = refl
 mark-erased (Some c) = braces-erased c
 

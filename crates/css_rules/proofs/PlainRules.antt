@@ -1,8 +1,13 @@
--- Each rule of a sheet that is read is a plain one.
-use Rattle.std.proofs.Common.{◌≡◌, ℕ, List, [], ◌∷◌, map, Bool, true, false, cond, Option, Some, None, refl, sym, subst, inl, inr}
+-- Each item of a sheet that is read is a plain one.
+use Rattle.std.proofs.Common.{◌≡◌, ℕ, List, [], ◌∷◌, ◌++◌, map, Bool, true, false, cond, Option, Some, None, refl, sym, ◌∙◌, ap, subst, inl, inr, ◌&&◌, not}
 use Rattle.std.specs.Prelude.{Result, Ok, Err, unwrap_or}
 use Rattle.std.specs.List.{list_all, AllByRecursion}
+use Rattle.std.proofs.lemmas.List.Folds.{list_all-append, list_all-map}
 use Rattle.css_tokens.specs.declared.component.Component.{Component}
+use Rattle.css_tokens.specs.Trees.{all_formed, words_all}
+use Rattle.media_tree.specs.SpelledWords.{AreRead}
+use Rattle.selector_types.specs.PartsWithin.{list_parts}
+use Rattle.selector_types.specs.ReadableSelectors.{is_spelled}
 use Rattle.selector_types.specs.declared.selector.Compound.{Compound}
 use Rattle.selector_types.specs.declared.selector.Selector.{Selector}
 use Rattle.selector_tree.specs.declared.sign.Sign.{Sign}
@@ -10,17 +15,27 @@ use Rattle.selector_tree.specs.Grammar.{Mark, Member, Step, compound_of, cut_at_
 use Rattle.selector_tree.specs.Signs.{list_reading, mark_of}
 use Rattle.css_rules.specs.Components.{inside}
 use Rattle.css_rules.specs.Cuts.{Cut, cuts}
-use Rattle.css_rules.specs.PlainRules.{IsPlainRule, is_unled}
-use Rattle.css_rules.specs.Sheets.{declarations_of, ends_item, ends_rule, is_unbuilt, item_of, rule_of, sheet_of}
+use Rattle.css_rules.specs.PlainRules.{Plain, are_built, is_one_run, is_plain_condition, is_plain_item, is_unled, none_waits, plainness}
+use Rattle.css_rules.specs.Sheets.{declarations_of, is_unbuilt, item_of, sheet_of}
+use Rattle.css_rules.specs.RuleEnds.{ends_item}
+use Rattle.sheet_types.specs.ItemFold.{folded, folded-Plain, folded-Style, folded-Group, folded-Passed, folded-Other}
 use Rattle.sheet_types.specs.Runs.{run_of}
 use Rattle.sheet_types.specs.declared.sheet.Declaration.{Declaration}
+use Rattle.sheet_types.specs.declared.sheet.Group as group
+use Rattle.sheet_types.specs.declared.sheet.GroupCondition.{GroupCondition}
+use Rattle.sheet_types.specs.declared.sheet.GroupCondition.TheVariants.{Media, Supports}
 use Rattle.sheet_types.specs.declared.sheet.Item.{Item}
+use Rattle.sheet_types.specs.declared.sheet.Item as item
 use Rattle.sheet_types.specs.declared.sheet.Sheet.{Sheet}
+use Rattle.css_rules.proofs.AtRuleShapes.{ReadsCondition}
 use Rattle.css_rules.proofs.BoolLemmas.{and-both}
-use Rattle.css_rules.proofs.FromSourceDeclarations.{each-append}
+use Rattle.css_rules.proofs.ConditionsRead.{QueriesReadable, WordsSpelled, queries-readable}
+use Rattle.css_rules.proofs.FromSourceParts.{all-sound}
 use Rattle.css_rules.proofs.ListsRead.{list-found}
 use Rattle.css_rules.proofs.ReadAllLemmas.{read_all-holds}
-use Rattle.css_rules.proofs.RuleShapes.{item-shape, prelude-shape, rule-shape, sheet-items}
+use Rattle.css_rules.proofs.RuleShapes.{IsStyled, item-shape, prelude-shape, sheet-items}
+use Rattle.css_rules.proofs.SourceRules.{AreStopped, ReadCases, items-hold}
+use Rattle.css_rules.proofs.StandLists.{ReadingLaws}
 use Rattle.css_rules.proofs.WaitingParts.{parts-calm}
 use Rattle.css_rules.proofs.WaitingSigns.{read-calm}
 
@@ -71,7 +86,10 @@ read-unled cs ss is =
 -- No declaration is rewritten by a later stage.
 
 abbrev AreBuilt : List Declaration → Type 0
-AreBuilt ds = AllByRecursion (λ d. is_unbuilt d ≡ false) ds
+AreBuilt ds = are_built ds ≡ true
+
+both-all : {X : Type 0} (test : X → Bool) (xs ys : List X) → list_all test xs ≡ true → list_all test ys ≡ true → list_all test (xs ++ ys) ≡ true
+both-all test xs ys h k = list_all-append test xs ys ∙ and-both (list_all test xs) (list_all test ys) h k
 
 each-cut : (ks : List Cut) → AllByRecursion (λ k. Unit {0}) ks
 each-cut [] = tt
@@ -79,37 +97,72 @@ each-cut (k ∷ ks) = (tt, each-cut ks)
 
 item-built : (cut : Cut) (ds : List Declaration) → Unit {0} → item_of cut ≡ Some ds → AreBuilt ds
 item-built cut ds t e = elim (item-shape cut ds e) [
-  | inl none ↦ subst AreBuilt (sym none) tt
-  | inr one ↦ subst AreBuilt (sym one.is) (one.built, tt)
+  | inl none ↦ subst AreBuilt (sym none) refl
+  | inr one ↦ subst AreBuilt (sym one.is) (ap (λ b. not b && true) one.built)
 ]
 
 block-built : (block : List Component) (ds : List Declaration) → declarations_of block ≡ Some ds → AreBuilt ds
-block-built block ds e = read_all-holds AreBuilt (λ k. Unit {0}) item_of tt (each-append (λ d. is_unbuilt d ≡ false)) item-built (cuts ends_item block) (each-cut (cuts ends_item block)) ds e
+block-built block ds e = read_all-holds AreBuilt (λ k. Unit {0}) item_of refl (both-all (λ d. not (is_unbuilt d))) item-built (cuts ends_item block) (each-cut (cuts ends_item block)) ds e
 
--- Rules.
+-- Items.
 
 abbrev ArePlain : List Item → Type 0
-ArePlain items = AllByRecursion IsPlainRule items
+ArePlain items = list_all is_plain_item items ≡ true
 
-rule-plain : (cut : Cut) (items : List Item) → Unit {0} → rule_of cut ≡ Some items → ArePlain items
-rule-plain cut items t e = elim (rule-shape cut items e) [
-  | inl none ↦ subst ArePlain (sym none) tt
-  | inr s ↦
-      let prelude = prelude-shape cut.front s.list s.prelude in
-      let read = list-found cut.front s.list prelude.spelled in
-      subst ArePlain (sym s.is) (
-        record {
-          rule = record { selectors = s.list; items = run_of s.ds; at = s.at };
-          is = refl;
-          unled = read-unled cut.front s.list read;
-          ready = parts-calm s.list (read-calm cut.front s.list prelude.built read);
-          declarations = s.ds;
-          run = refl;
-          built = block-built (inside s.block) s.ds s.inner;
-        },
-        tt,
-      )
-]
+abbrev plain_of : Item → Plain
+plain_of = folded plainness
 
-pub sheet-plain : (cs : List Component) (sheet : Sheet) → sheet_of cs ≡ Some sheet → ArePlain sheet.items
-sheet-plain cs sheet e = read_all-holds ArePlain (λ k. Unit {0}) rule_of tt (each-append IsPlainRule) rule-plain (cuts ends_rule cs) (each-cut (cuts ends_rule cs)) sheet.items (sheet-items cs sheet e)
+one-plain : (x : Item) → is_plain_item x ≡ true → ArePlain (x ∷ [])
+one-plain x e = ap (λ b. b && true) e
+
+run-plain : (ds : List Declaration) → AreBuilt ds → is_one_run (map plain_of (run_of ds)) ≡ true
+run-plain [] built = refl
+run-plain (d ∷ ds) built = ap (λ (p : Plain). p.within) (folded-Plain plainness (d ∷ ds)) ∙ built
+
+style-plain : (list : List Selector) (ds : List Declaration) (at : ℕ) → AreUnled list → none_waits (list_parts list) ≡ true → AreBuilt ds → is_plain_item (item.Style (record { selectors = list; items = run_of ds; at = at })) ≡ true
+style-plain list ds at unled calm built =
+    let run = is_one_run (map plain_of (run_of ds)) in
+    ap (λ (p : Plain). p.top) (folded-Style plainness (record { selectors = list; items = run_of ds; at = at }))
+    ∙ and-both (list_all is_unled list) (none_waits (list_parts list) && run) unled (and-both (none_waits (list_parts list)) run calm (run-plain ds built))
+
+style-read : (cut : Cut) (items : List Item) → IsStyled cut items → ArePlain items
+style-read cut items s =
+    let prelude = prelude-shape cut.front s.list s.prelude in
+    let read = list-found cut.front s.list prelude.spelled in
+    subst ArePlain (sym s.is)
+    (one-plain (item.Style (record { selectors = s.list; items = run_of s.ds; at = s.at }))
+    (style-plain s.list s.ds s.at (read-unled cut.front s.list read) (parts-calm s.list (read-calm cut.front s.list prelude.built read)) (block-built (inside s.block) s.ds s.inner)))
+
+group-plain : (g : group.Group) → is_plain_condition g.condition ≡ true → ArePlain g.items → ArePlain (item.Group g ∷ [])
+group-plain g condition inner =
+    let tops = list_all (λ (p : Plain). p.top) (map plain_of g.items) in
+    one-plain (item.Group g)
+    (ap (λ (p : Plain). p.top) (folded-Group plainness g)
+    ∙ and-both (is_plain_condition g.condition) tops condition (list_all-map (λ (p : Plain). p.top) plain_of g.items ∙ inner))
+
+-- what is ensured of what is read
+pub record PlainLaws : Type 0 where
+  pub words : WordsSpelled
+  pub queries : QueriesReadable
+  pub reading : ReadingLaws
+
+module _ (laws : PlainLaws) where
+  condition-plain : (c : GroupCondition) (cs : List Component) → AreStopped is_spelled cs → ReadsCondition cs c → is_plain_condition c ≡ true
+  condition-plain (Media qs) cs stopped read = queries-readable laws.words laws.queries cs qs stopped read
+  condition-plain (Supports s) cs stopped read = refl
+
+  cases : ReadCases is_spelled ArePlain
+  cases = record {
+    nothing = refl;
+    both = both-all is_plain_item;
+    style = λ cut items s sound block. style-read cut items s;
+    group = λ g prelude stopped read inner. group-plain g (condition-plain g.condition prelude stopped read) inner;
+    passed = λ rule r. one-plain (item.Passed rule) (ap (λ (p : Plain). p.top) (folded-Passed plainness rule));
+    other = λ at. one-plain (item.Other at) (ap (λ (p : Plain). p.top) (folded-Other plainness at));
+  }
+
+  pub sheet-plain : (cs : List Component) (sheet : Sheet) → sheet_of cs ≡ Some sheet → all_formed cs ≡ true → list_all is_spelled (words_all cs) ≡ true → AreRead cs → ArePlain sheet.items
+  sheet-plain cs sheet e formed spelled read =
+      items-hold laws.reading is_spelled ArePlain cases cs
+      (record { sound = all-sound is_spelled cs formed spelled; behind = read.behind; stands = record { reads = read.reads } })
+      sheet.items (sheet-items cs sheet e)

@@ -11,11 +11,12 @@ use Rattle.css_rules.specs.Components.{head, inside}
 use Rattle.css_rules.specs.Cuts.{Cut, trimmed}
 use Rattle.css_rules.specs.Declarations.{declaration_of}
 use Rattle.css_rules.specs.Refusals.{has_waiting}
-use Rattle.css_rules.specs.Sheets.{begins_at_rule, ends_in_braces, is_unbuilt, built, plain_item, is_rule, item_of, declarations_of, prelude_of, style_with, first_place, leftover, style_of, rule_of, rules_of, sheet_of}
+use Rattle.css_rules.specs.Sheets.{is_unbuilt, built, plain_item, is_rule, item_of, declarations_of, prelude_of, style_with, first_place, leftover, style_of, rules_of, sheet_of}
+use Rattle.css_rules.specs.RuleEnds.{begins_at_rule, ends_in_braces}
 use Rattle.sheet_types.specs.Runs.{run_of}
 use Rattle.css_rules.proofs.CutLemmas.{or-right}
 
-unless-some : {A : Type 0} (b : Bool) (o : Option A) (x : A) → cond b None o ≡ Some x → (b ≡ false) × (o ≡ Some x)
+pub unless-some : {A : Type 0} (b : Bool) (o : Option A) (x : A) → cond b None o ≡ Some x → (b ≡ false) × (o ≡ Some x)
 unless-some true o x e = absurd (cc e)
 unless-some false o x e = (refl, e)
 
@@ -58,7 +59,7 @@ prelude-shape prelude list e =
     let plain = unless-some (has_waiting prelude) (list_in (map mark_of prelude)) list e in
     record { built = plain.0; spelled = plain.1 }
 
--- Rules.
+-- Style rules.
 
 -- one style rule is read of the rule
 pub record IsStyled (cut : Cut) (items : List Item) : Type 0 where
@@ -71,8 +72,8 @@ pub record IsStyled (cut : Cut) (items : List Item) : Type 0 where
   pub inner : declarations_of (inside block) ≡ Some ds
   pub is : items ≡ item.Style (record { selectors = list; items = run_of ds; at = at }) ∷ []
 
-pub rule-shape : (cut : Cut) (items : List Item) → rule_of cut ≡ Some items → (items ≡ []) ⊎ IsStyled cut items
-rule-shape cut items e = at cut.mark refl (unless-some (begins_at_rule (trimmed cut.front)) (style_of cut.front cut.mark) items e).1
+pub style-shape : (cut : Cut) (items : List Item) → style_of cut.front cut.mark ≡ Some items → (items ≡ []) ⊎ IsStyled cut items
+style-shape cut items e = at cut.mark refl e
   where
     nothing : (cs : List Component) → leftover cs ≡ Some items → items ≡ []
     nothing [] h = cc h

@@ -5,33 +5,37 @@ use Rattle.std.proofs.lemmas.List.{append_assoc}
 use Rattle.std.proofs.lemmas.List.Folds.{flat_map-map}
 use Rattle.css_tokens.specs.declared.kind.Kind.TheVariants as kinds
 use Rattle.css_tokens.specs.declared.component.Component.{Component}
-use Rattle.css_tokens.specs.declared.component.Block as block
 use Rattle.css_tokens.specs.Trees.{all_formed, words_all}
 use Rattle.selector_types.specs.Preludes.{is_prelude_word}
 use Rattle.sheet_types.specs.declared.sheet.Declaration.{Declaration}
 use Rattle.sheet_types.specs.declared.sheet.Item.{Item}
 use Rattle.sheet_types.specs.declared.sheet.Item as item
-use Rattle.sheet_types.specs.declared.sheet.Style as style
+use Rattle.sheet_types.specs.declared.sheet.Group as group
+use Rattle.sheet_types.specs.declared.sheet.Passed.{Passed}
+use Rattle.sheet_types.specs.PassedRules.{keyword_of}
+use Rattle.css_tokens.specs.ValueAgain.{value_again}
 use Rattle.selector_types.specs.Erased.{erased}
 use Rattle.selector_types.specs.Spelling.{list_spelling}
 use Rattle.selector_tree.specs.Signs.{list_in, mark_of}
-use Rattle.sheet_types.specs.BareItems.{bared, bare_item, bare_items, bare_sheet, bare_item-Style, filled_item, filled_items}
+use Rattle.sheet_types.specs.BareItems.{bared, bare_item, bare_items, bare_sheet, filled_item, filled_items}
 use Rattle.css_rules.specs.Components.{head, inside, is_braces, is_semicolon, is_at_keyword, is_gap}
-use Rattle.css_rules.specs.Cuts.{cuts, trimmed, trimmed_start, trimmed_end}
+use Rattle.css_rules.specs.Cuts.{Cut, cuts, trimmed, trimmed_start, trimmed_end}
 use Rattle.selector_types.specs.declared.selector.Selector.{Selector}
 use Rattle.selector_types.specs.ReadableSelectors.{is_readable_list}
 use Rattle.css_rules.specs.ReadAll.{joined, read_all}
-use Rattle.css_rules.specs.Sheets.{begins_at_rule, declarations_of, ends_rule, first_place, leftover, sheet_of, style_of, style_with}
+use Rattle.css_rules.specs.Sheets.{declarations_of, first_place, leftover, rules_of, sheet_of, style_with}
+use Rattle.css_rules.specs.RuleEnds.{begins_at_rule, ends_rule}
 use Rattle.sheet_types.specs.Runs.{run_of}
-use Rattle.css_rules.specs.Printable.{ArePrintable, IsPrintableDeclaration, IsPrintableLeaf, IsPrintableList}
+use Rattle.css_rules.specs.Printable.{ArePrintable, IsPrintableCondition, IsPrintableDeclaration, IsPrintableLeaf, IsPrintableList, IsPrintablePassed}
 use Rattle.sheet_types.specs.SheetAgain.{line_feed, braces, declarations_again, item_again, items_again}
-use Rattle.css_rules.proofs.BareLemmas.{bare-rule, bare-run_of, bare-sheet_of, bare_rule_of}
+use Rattle.css_rules.proofs.AtRulesAgain.{GroupLaws, at_front, brace_of, condition_keyword, condition_spelling, condition-braces, condition-front, condition-semicolon, front-braces, front-semicolon, group-read, passed-read, plain-rule_of, value-braces, value-semicolon}
+use Rattle.css_rules.proofs.BareLemmas.{bare-rule, bare-rules_of, bare-sheet_of, bare_rule_of}
 use Rattle.css_rules.proofs.CutLemmas.{front-cut, goes_on, trimmed_start-gap, whole-cut}
 use Rattle.css_rules.proofs.CutAgain.{any-append, any-trimmed_end}
 use Rattle.css_rules.proofs.DeclarationLemmas.{or_false_left, or_false_right}
 use Rattle.css_rules.proofs.Heads.{piece_of, word, inside-Block, at-Single, braces-Single, braces-Block, gap-Single, semicolon-Single}
 use Rattle.css_rules.proofs.ItemLists.{IsCutOff, IsPart, parts-of}
-use Rattle.sheet_types.proofs.ItemShapes.{IsRun, TopCases, again-empty, again-run, by_tops, filled-empty, filled-run}
+use Rattle.sheet_types.proofs.ItemShapes.{AreFull, TopCases, again-full, again-passed, again-run, bare-full, bare-passed, bare-run, by_tops}
 use Rattle.css_rules.proofs.ValueFacts.{ValueLaws}
 use Rattle.css_rules.proofs.DeclarationAgain.{read_again}
 use Rattle.css_rules.proofs.SheetRound.{NameLaws, declarations-again, bareds-again}
@@ -96,27 +100,11 @@ trimmed-lead : (b : Bool) → trimmed (lead_of b) ≡ []
 trimmed-lead true = ap trimmed_end (trimmed_start-gap line_feed [] (gap-Single (piece_of (word kinds.White (10 ∷ [])))))
 trimmed-lead false = refl
 
-abbrev pub brace_of : List Component → block.Block
-brace_of inside = record { opening = record { kind = kinds.Open; text = codes "{"; at = 0 }; items = inside; close = 0 }
-
 -- a rule of this list, places aside
 abbrev bare_rule : List Declaration → List Selector → List Item
 bare_rule ds list = item.Style (record { selectors = list; items = run_of (map bared ds); at = 0 }) ∷ []
 
--- what stays of rules, places aside
-
-abbrev bare_style : style.Style → style.Style
-bare_style s = record { selectors = map erased s.selectors; items = bare_items s.items; at = 0 }
-
-bare-empty : (s : style.Style) → s.items ≡ [] → filled_item (bare_item (item.Style s)) ≡ []
-bare-empty s none = ap filled_item (bare_item-Style s) ∙ filled-empty (bare_style s) (ap bare_items none)
-
-bare-run : (s : style.Style) (run : IsRun s) → filled_item (bare_item (item.Style s)) ≡ bare_rule (run.first ∷ run.more) (map erased s.selectors)
-bare-run s run =
-    ap filled_item (bare_item-Style s)
-    ∙ filled-run (bare_style s) (record { first = bared run.first; more = map bared run.more; is = ap bare_items run.is ∙ bare-run_of (run.first ∷ run.more) })
-
-module _ (values : ValueLaws) (names : NameLaws) (selectors : SelectorLaws) where
+module _ (values : ValueLaws) (names : NameLaws) (selectors : SelectorLaws) (groups : GroupLaws) where
   -- what is read from a printed rule, where its selectors are read
   styles-again : (o : Option (List Selector)) (ds : List Declaration) (at : ℕ) → AllByRecursion IsPrintableDeclaration ds
       → option_map bare_items (style_with at o (Some (map read_again ds))) ≡ option_map (bare_rule ds) (option_map (map erased) o)
@@ -134,7 +122,8 @@ module _ (values : ValueLaws) (names : NameLaws) (selectors : SelectorLaws) wher
       let brace = braces inner in
       let at = first_place (trimmed front) (head brace).at in
       let read : Option (List Selector) = list_in (map mark_of (list_spelling list)) in
-      ap (λ waits. option_map bare_items (cond waits None (style_of front (Some brace)))) (plain_rule selectors b list)
+      let cut : Cut = record { front = front; mark = Some brace } in
+      ap (option_map bare_items) (plain-rule_of cut (plain_rule selectors b list))
       ∙ ap (λ o. option_map bare_items (style_with at o (declarations_of (inside brace)))) (prelude-again b (list_spelling list) fine.built)
       ∙ ap (λ o. option_map bare_items (style_with at read o)) (ap declarations_of (inside-Block (brace_of inner)) ∙ declarations-again values names d ds printable)
       ∙ styles-again read (d ∷ ds) at printable
@@ -144,14 +133,49 @@ module _ (values : ValueLaws) (names : NameLaws) (selectors : SelectorLaws) wher
   ends : (b : Bool) → read_all bare_rule_of (cuts ends_rule (lead_of b)) ≡ Some []
   ends b =
       ap (read_all bare_rule_of) (whole-cut ends_rule [] (lead_of b) (goes-rule [] (lead_of b) (lead_braces b) (lead_semicolon b)))
-      ∙ ap (λ cs. joined (option_map bare_items (cond (begins_at_rule cs) None (leftover cs))) (Some [])) (trimmed-lead b)
+      ∙ ap (λ o. joined (option_map bare_items o) (Some [])) (plain-rule_of (record { front = lead_of b; mark = None }) (ap begins_at_rule (trimmed-lead b)) ∙ ap leftover (trimmed-lead b))
 
   abbrev IsAgain : Item → Type 0
   IsAgain x = IsPart (cuts ends_rule) bare_rule_of (item_again x) (filled_item (bare_item x))
 
+  -- of items one after another is read what is read of each
+  parts-read : (b : Bool) (xs : List Item) → AllByRecursion IsAgain xs → option_map bare_items (rules_of (lead_of b ++ items_again xs)) ≡ Some (filled_items (bare_items xs))
+  parts-read b xs each =
+      bare-rules_of (lead_of b ++ items_again xs)
+      ∙ parts-of (cuts ends_rule) bare_rule_of item_again (λ x. filled_item (bare_item x)) ends b xs each
+      ∙ ap Some (sym (flat_map-map filled_item bare_item xs))
+
+  group-again : (g : group.Group) → AreFull g.items → IsPrintableCondition g.condition → AllByRecursion IsAgain g.items → IsAgain (item.Group g)
+  group-again g full fine each =
+      let text = condition_keyword g.condition in
+      let cs = condition_spelling g.condition in
+      let within = line_feed ∷ items_again g.items in
+      let front = at_front text cs in
+      inr (record {
+        front = front;
+        mark = braces within;
+        is = again-full g full ∙ ap (λ ds. ds ++ braces within ∷ line_feed ∷ []) (condition-front g.condition);
+        off = rule-off front (braces within) (front-braces text cs (condition-braces groups g.condition)) (front-semicolon text cs (condition-semicolon groups g.condition)) (braces-Block (brace_of within));
+        same = λ b. group-read values groups b g full fine (parts-read true g.items each) ∙ sym (ap Some (bare-full g full));
+      })
+
+  passed-again : (rule : Passed) → IsPrintablePassed rule → IsAgain (item.Passed rule)
+  passed-again rule fine =
+      let text = codes "@" ++ keyword_of rule.kind in
+      let prelude = value_again rule.prelude in
+      let within = value_again rule.block in
+      let front = at_front text prelude in
+      inr (record {
+        front = front;
+        mark = braces within;
+        is = again-passed rule;
+        off = rule-off front (braces within) (front-braces text prelude (value-braces values rule.prelude fine.prelude.formed fine.whole)) (front-semicolon text prelude (value-semicolon values rule.prelude fine.prelude.formed fine.undivided)) (braces-Block (brace_of within));
+        same = λ b. passed-read values b rule fine ∙ sym (ap Some (bare-passed rule));
+      })
+
   again-cases : TopCases IsPrintableLeaf IsAgain
   again-cases = record {
-    empty = λ s none. inl (again-empty s none, bare-empty s none);
+    hollow = λ x none. inl (none.again, none.bare);
     rule = λ s run fine each.
         let list = s.selectors in
         let ds = run.first ∷ run.more in
@@ -164,11 +188,13 @@ module _ (values : ValueLaws) (names : NameLaws) (selectors : SelectorLaws) wher
           off = rule-off (list_spelling list) (braces (declarations_again ds)) (no-braces (list_spelling list) formed plain) (no-semicolon (list_spelling list) formed plain) (braces-Block (brace_of (declarations_again ds)));
           same = λ b. rule-again b list run.first run.more fine each ∙ sym (ap Some (bare-run s run));
         });
+    group = group-again;
+    passed = passed-again;
   }
 
   -- printed items are read as those items
   pub items-read : (xs : List Item) → ArePrintable xs → option_map bare_sheet (sheet_of (items_again xs)) ≡ Some (filled_items (bare_items xs))
   items-read xs p =
       bare-sheet_of (items_again xs)
-      ∙ parts-of (cuts ends_rule) bare_rule_of item_again (λ x. filled_item (bare_item x)) ends false xs (by_tops IsPrintableLeaf IsAgain again-cases xs p.tops p.fine)
-      ∙ ap Some (sym (flat_map-map filled_item bare_item xs))
+      ∙ sym (bare-rules_of (items_again xs))
+      ∙ parts-read false xs (by_tops IsPrintableLeaf IsAgain again-cases xs p.tops p.fine)

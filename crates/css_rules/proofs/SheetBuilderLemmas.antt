@@ -13,9 +13,11 @@ use Rattle.css_rules.specs.Cuts.{Cut, cuts, cuts_behind, trimmed_start, with_fro
 use Rattle.css_rules.specs.ReadAll.{joined, read_all}
 use Rattle.css_rules.specs.Refusals.{first_refusal, sooner_of}
 use Rattle.css_rules.specs.SheetBuilding.{HasRead, HasTaken}
-use Rattle.css_rules.specs.Sheets.{begins_at_rule, ends_rule, rule_of, rule_refusals}
+use Rattle.css_rules.specs.Sheets.{rule_of, rules_of, rule_refusals, sheet_refusals}
+use Rattle.css_rules.specs.RuleEnds.{begins_at_rule, ends_rule}
 use Rattle.css_rules.specs.Private.Starts.{begun, ends_begun, start_of, start_with}
 use Rattle.css_rules.proofs.CutLemmas.{cuts-marked, cuts-unmarked, first_cut, trimmed_start-gap, trimmed_start-other}
+use Rattle.css_rules.proofs.NestedRules.{rules-read, rules-refused}
 use Rattle.css_rules.proofs.ReadAllLemmas.{right-none}
 use Rattle.css_rules.proofs.RefusalLemmas.{first_refusal-append, sooner_of-none_left, sooner_of-none_right}
 
@@ -209,3 +211,14 @@ taken-going old new taken c ends current start refusal items h = record {
   read = record { refusal = refusal ∙ h.read.refusal; items = λ none. h.read.items (sym refusal ∙ none) ∙ ap Some (sym items) };
   start = start ∙ ap (λ s. start_with s c) h.start ∙ sym (ap start_of current ∙ start-more old.current c);
 }
+
+-- At the end all rules are read.
+
+pub record IsRead (builder : SheetBuilder) (taken : List Component) : Type 0 where
+  pub refusal : builder.refusal ≡ first_refusal (sheet_refusals taken)
+  pub items : builder.refusal ≡ None → rules_of taken ≡ Some builder.items
+
+pub taken-read : (old new : SheetBuilder) (taken : List Component) → ((rules : List Cut) → HasRead old rules → HasRead new (rules ++ unended old.current ∷ [])) → HasTaken old taken → IsRead new taken
+taken-read old new taken reads h =
+    let read = subst (HasRead new) (sym h.cut) (reads h.rules h.read) in
+    record { refusal = read.refusal ∙ ap first_refusal (sym (rules-refused taken)); items = λ none. rules-read taken ∙ read.items none }

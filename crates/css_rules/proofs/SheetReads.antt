@@ -1,37 +1,54 @@
 -- The text of printed items reads as the words of their components.
-use Rattle.std.proofs.Common.{◌≡◌, ℕ, List, [], ◌∷◌, ◌++◌, Bool, true, false, not, refl, sym, ◌∙◌, ap, subst, IsTrue, codes, length, drop}
+use Rattle.std.proofs.Common.{◌≡◌, ℕ, List, [], ◌∷◌, ◌++◌, Bool, true, false, not, map, ◌&&◌, refl, sym, ◌∙◌, ap, subst, IsTrue, codes, length, drop, inl, inr}
 use Rattle.std.specs.List.{AllByRecursion}
+use Rattle.std.proofs.lemmas.Bool.{false≢true}
 use Rattle.std.proofs.lemmas.List.{append_assoc, append-nil}
+use Rattle.css_tokens.specs.declared.kind.Kind.{Kind}
 use Rattle.css_tokens.specs.declared.kind.Kind.TheVariants as kinds
 use Rattle.css_tokens.specs.declared.component.Component.{Component}
-use Rattle.css_tokens.specs.Piece.{Word, spelled}
+use Rattle.css_tokens.specs.Kinds.{is_kind}
+use Rattle.css_tokens.specs.Piece.{Piece, Word, spelled, word_of}
 use Rattle.css_tokens.specs.NameText.{name_text}
 use Rattle.css_tokens.specs.Names.{is_name}
 use Rattle.css_tokens.specs.PlainNames.{is_plain_name}
 use Rattle.css_tokens.specs.Characters.{white}
-use Rattle.css_tokens.specs.Again.{StaysFirst, is_stop, marks, word_from, begins_none, after_ident}
-use Rattle.css_tokens.specs.Tokens.{ReadsTo, Reads, classes_of, is_refused, after_mark, bad_place}
-use Rattle.css_tokens.specs.Trees.{words_all, all_formed}
-use Rattle.css_tokens.specs.Values.{value_text, value_words}
-use Rattle.css_tokens.specs.ValueAgain.{value_again}
+use Rattle.css_tokens.specs.Again.{StaysFirst, is_stop, marks, more_name, takes, word_from, begins_none, after_ident}
+use Rattle.css_tokens.specs.Tokens.{First, ReadsTo, Reads, classes_of, is_refused, after_mark, bad_place, spells}
+use Rattle.css_tokens.specs.Trees.{words_all, all_formed, closing, pieces_all, pieces_of-Block, pieces_of-Single}
+use Rattle.css_tokens.specs.Values.{is_gap as is_gap_kind, is_white, value_text, value_words}
+use Rattle.css_tokens.specs.ValueAgain.{head_kind, head_kind-Block, head_kind-Single, value_again}
+use Rattle.media_spelling.specs.Spelling.{queries_spelling, queries_text, supports_spelling, supports_text}
+use Rattle.media_spelling.specs.SupportsValues.{DeclaredValuesStand, ValueStands}
+use Rattle.media_spelling.specs.declared.condition.Query.{Query}
+use Rattle.media_spelling.specs.declared.supports.Supports.{Supports}
+use Rattle.media_tree.specs.ReadableQueries.{are_readable_queries}
+use Rattle.media_tree.specs.ReadValues.{ValuesStand}
+use Rattle.media_tree.specs.SupportsAgain.{is_readable_supports}
+use Rattle.sheet_types.specs.declared.sheet.GroupCondition.{GroupCondition}
+use Rattle.sheet_types.specs.declared.sheet.GroupCondition.TheVariants.{Media, Supports as OfSupports}
+use Rattle.sheet_types.specs.declared.sheet.Passed.{Passed}
+use Rattle.sheet_types.specs.declared.sheet.PassedKind.{PassedKind}
+use Rattle.sheet_types.specs.declared.sheet.PassedKind.TheVariants.{FontFace, Keyframes, WebkitKeyframes, MozKeyframes, Page, CounterStyle}
+use Rattle.sheet_types.specs.PassedRules.{keyword_of}
 use Rattle.sheet_types.specs.declared.sheet.Declaration.{Declaration}
 use Rattle.selector_types.specs.declared.selector.Selector.{Selector}
 use Rattle.selector_types.specs.Spelling.{colon, list_spelling, list_text}
 use Rattle.selector_types.specs.ReadableSelectors.{is_readable_list}
 use Rattle.css_rules.specs.Components.{is_gap}
 use Rattle.sheet_types.specs.declared.sheet.Item.{Item}
-use Rattle.sheet_types.specs.Leaves.{Leaf, OfDeclaration, all_leaves}
-use Rattle.css_rules.specs.Printable.{IsPrintableDeclaration, IsPrintableLeaf, ArePrintable, begins_solid}
-use Rattle.sheet_types.specs.Standing.{Stands, LeafStands, AllStand}
+use Rattle.css_rules.specs.Printable.{IsPrintableCondition, IsPrintableDeclaration, IsPrintablePassed, ArePrintable, begins_solid}
+use Rattle.sheet_types.specs.Standing.{AllStand, ConditionStands, Stands}
 use Rattle.sheet_types.specs.SheetTexts.{items_text}
-use Rattle.sheet_types.specs.SheetAgain.{semicolon, line_feed, value_or_space, importance_again, declaration_again, declarations_again, braces, item_again, items_again}
+use Rattle.sheet_types.specs.SheetAgain.{semicolon, line_feed, value_or_space, importance_again, declaration_again, declarations_again, behind_keyword_again, braces, item_again, items_again}
 use Rattle.css_rules.proofs.CleanTexts.{ListTexts, clean-bad, items-clean, items-unmarked}
 use Rattle.css_rules.proofs.Heads.{single_of, word}
 use Rattle.css_rules.proofs.ImportantNames.{important-name}
-use Rattle.sheet_types.proofs.ItemShapes.{TopCases, again-empty, again-run, by_tops}
+use Rattle.sheet_types.proofs.ItemShapes.{IsSome, TopCases, again-full, again-passed, again-run, some-left}
+use Rattle.css_rules.proofs.AtRulesAgain.{at_front, condition-front, condition_keyword, condition_spelling}
+use Rattle.css_rules.proofs.ReadyItems.{IsReady, by_ready, each-printable, each-stands}
 use Rattle.css_rules.proofs.PreludeAgain.{words-cons}
-use Rattle.css_rules.proofs.ValueFacts.{ValueLaws, printed-some}
-use Rattle.css_rules.proofs.SheetSpelled.{text_of, words-append, text-append, text-cons, words-braces, text-braces, text-importance, items-spelled}
+use Rattle.css_rules.proofs.ValueFacts.{ValueLaws, printed-some, shape_of}
+use Rattle.css_rules.proofs.SheetSpelled.{BehindTexts, HasText, text_of, words-append, text-append, text-cons, words-braces, text-braces, text-importance, items-spelled}
 
 -- what is ensured of tokens that are written one after another
 pub record ReadLaws : Type 0 where
@@ -47,6 +64,13 @@ pub record ReadLaws : Type 0 where
   pub listed : (ss : List Selector) (rest : List ℕ) → IsTrue (is_readable_list false ss) → ReadsTo (list_text ss ++ (codes "{" ++ rest)) (words_all (list_spelling ss)) (codes "{" ++ rest)
   pub begins : (ss : List Selector) (rest : List ℕ) → IsTrue (is_readable_list false ss) → begins_none white (list_text ss ++ rest) ≡ true
   pub texts : ListTexts
+  pub at : (u rest : List ℕ) → spells kinds.At u ≡ true → begins_none more_name rest ≡ true → takes (word_from kinds.At u) rest ≡ false → StaysFirst (word_from kinds.At u) rest
+  pub solid_first : (w : Word) (rest : List ℕ) → StaysFirst w rest → is_white w.kind ≡ false → begins_none white (w.text ++ rest) ≡ true
+  pub word_spelled : (t : List ℕ) (w : Word) → First t w → spells w.kind w.text ≡ true
+  pub queries : (qs : List Query) (rest : List ℕ) → IsTrue (are_readable_queries qs) → ValuesStand qs → IsTrue (begins_none after_ident rest) → ReadsTo (queries_text qs ++ rest) (words_all (queries_spelling qs)) rest
+  pub supports : (s : Supports) (rest : List ℕ) → IsTrue (is_readable_supports s) → DeclaredValuesStand s → ReadsTo (supports_text s ++ rest) (words_all (supports_spelling s)) rest
+  pub queries_begin : (qs : List Query) (rest : List ℕ) → IsTrue (are_readable_queries qs) → IsTrue (begins_none white rest) → IsTrue (begins_none white (queries_text qs ++ rest))
+  pub supports_begin : (s : Supports) (rest : List ℕ) → IsTrue (is_readable_supports s) → IsTrue (begins_none white (supports_text s ++ rest))
 
 -- the components' text reads as their words, and then the rest is left
 abbrev pub ReadsOn : List Component → List ℕ → Type 0
@@ -59,6 +83,38 @@ drop-whole (x ∷ xs) rest = drop-whole xs rest
 not_true : (b : Bool) → not b ≡ true → b ≡ false
 not_true true e = sym e
 not_true false e = refl
+
+-- it spells an at-keyword, and takes no space
+record IsKeyword (text : List ℕ) : Type 0 where
+  spelled : spells kinds.At text ≡ true
+  takes_none : takes (word_from kinds.At text) (codes " ") ≡ false
+
+media_keyword : IsKeyword (codes "@media")
+unfolding spells
+media_keyword = record { spelled = refl; takes_none = refl }
+
+supports_keyword : IsKeyword (codes "@supports")
+unfolding spells
+supports_keyword = record { spelled = refl; takes_none = refl }
+
+passed_keyword : (kind : PassedKind) → IsKeyword (codes "@" ++ keyword_of kind)
+unfolding spells
+passed_keyword FontFace = record { spelled = refl; takes_none = refl }
+passed_keyword Keyframes = record { spelled = refl; takes_none = refl }
+passed_keyword WebkitKeyframes = record { spelled = refl; takes_none = refl }
+passed_keyword MozKeyframes = record { spelled = refl; takes_none = refl }
+passed_keyword Page = record { spelled = refl; takes_none = refl }
+passed_keyword CounterStyle = record { spelled = refl; takes_none = refl }
+
+-- no kind is spelled by nothing
+spells-some : (kind : Kind) (text : List ℕ) → spells kind text ≡ true → IsSome text
+unfolding spells
+spells-some kind [] h = absurd (false≢true (sym (none (is_kind kind kinds.Url)) ∙ h))
+  where
+    none : (b : Bool) → (b && false) ≡ false
+    none true = refl
+    none false = refl
+spells-some kind (c ∷ text) h = tt
 
 module _ (laws : ReadLaws) where
   on-append : (xs ys : List Component) (rest : List ℕ) → ReadsOn xs (text_of ys ++ rest) → ReadsOn ys rest → ReadsOn (xs ++ ys) rest
@@ -188,21 +244,20 @@ module _ (laws : ReadLaws) where
   abbrev ReadsItem : List Component → Type 0
   ReadsItem cs = (rest : List ℕ) → begins_none white rest ≡ true → ReadsAlone cs rest
 
-  -- a rule reads where its list does before a block, and its block does
-  braced-reads : (list : List Selector) (inside : List Component) → IsTrue (is_readable_list false list) → ((r : List ℕ) → ReadsOn inside (codes "}" ++ r)) → ReadsItem (list_spelling list ++ braces inside ∷ line_feed ∷ [])
-  braced-reads list inside readable inner rest white_rest =
-      let front = list_spelling list in
+  -- a rule reads where what is before its block does, and so does its block
+  braced-reads : (front inside : List Component) → ((r : List ℕ) → ReadsAlone front (codes "{" ++ r)) → ((r : List ℕ) → ReadsOn inside (codes "}" ++ r)) → ReadsItem (front ++ braces inside ∷ line_feed ∷ [])
+  braced-reads front inside before inner rest white_rest =
       let tail = braces inside ∷ line_feed ∷ [] in
       let behind = text_of inside ++ (codes "}" ++ text_of (line_feed ∷ [])) in
       let whole : text_of tail ++ rest ≡ codes "{" ++ (behind ++ rest) = ap (λ t. t ++ rest) (text-braces inside (line_feed ∷ [])) in
-      let P : List ℕ → Type 0 = λ t. ReadsTo (text_of front ++ t) (words_all front) t in
+      let first : ReadsAlone front (text_of tail ++ rest) = subst (ReadsAlone front) (sym whole) (before (behind ++ rest)) in
       record {
-        on = on-append front tail rest (subst P (sym whole) (laws.listed list (behind ++ rest) readable)) (block-reads inside rest inner white_rest);
-        begins =
-            ap (λ t. begins_none white (t ++ rest)) (text-append front tail)
-            ∙ ap (begins_none white) (append_assoc (list_text list) (text_of tail) rest)
-            ∙ laws.begins list (text_of tail ++ rest) readable;
+        on = on-append front tail rest first.on (block-reads inside rest inner white_rest);
+        begins = ap (λ t. begins_none white (t ++ rest)) (text-append front tail) ∙ ap (begins_none white) (append_assoc (text_of front) (text_of tail) rest) ∙ first.begins;
       }
+
+  list-reads : (list : List Selector) → IsTrue (is_readable_list false list) → (r : List ℕ) → ReadsAlone (list_spelling list) (codes "{" ++ r)
+  list-reads list readable r = record { on = laws.listed list r readable; begins = laws.begins list (codes "{" ++ r) readable }
 
   append-reads : (xs ys : List Component) → ReadsItem xs → ReadsItem ys → ReadsItem (xs ++ ys)
   append-reads xs ys first second rest white_rest =
@@ -216,44 +271,154 @@ module _ (laws : ReadLaws) where
   nothing-reads : ReadsItem []
   nothing-reads rest white_rest = record { on = on-end rest; begins = white_rest }
 
-  -- a leaf that is printable and stands
-  abbrev IsReady : Leaf → Type 0
-  IsReady leaf = IsPrintableLeaf leaf × LeafStands leaf
+  -- At-keywords, and what stands behind them.
 
-  each-printable : (ds : List Declaration) → AllByRecursion (λ d. IsReady (OfDeclaration d)) ds → AllByRecursion IsPrintableDeclaration ds
-  each-printable [] each = tt
-  each-printable (d ∷ ds) each = (each.0.0, each-printable ds each.1)
+  front-on : (text : List ℕ) → IsKeyword text → (cs : List Component) (r : List ℕ) → ReadsAlone cs (codes "{" ++ r) → ReadsOn (at_front text cs) (codes "{" ++ r)
+  front-on text keyword [] r inner = on-cons (word kinds.At text) [] (codes "{" ++ r) refl (laws.at text (codes "{" ++ r) keyword.spelled refl refl) (on-end (codes "{" ++ r))
+  front-on text keyword (c ∷ cs) r inner =
+      let after = codes "{" ++ r in
+      let behind = single_of (word kinds.White (codes " ")) ∷ c ∷ cs in
+      let whole : text_of behind ++ after ≡ codes " " ++ (text_of (c ∷ cs) ++ after) = ap (λ t. t ++ after) (text-cons (word kinds.White (codes " ")) (c ∷ cs)) in
+      let first : StaysFirst (word_from kinds.At text) (text_of behind ++ after) = subst (StaysFirst (word_from kinds.At text)) (sym whole) (laws.at text (codes " " ++ (text_of (c ∷ cs) ++ after)) keyword.spelled refl keyword.takes_none) in
+      on-cons (word kinds.At text) behind after refl first
+      (on-cons (word kinds.White (codes " ")) (c ∷ cs) after refl (laws.spaced (text_of (c ∷ cs) ++ after) inner.begins) inner.on)
 
-  each-stands : (ds : List Declaration) → AllByRecursion (λ d. IsReady (OfDeclaration d)) ds → AllByRecursion Stands ds
-  each-stands [] each = tt
-  each-stands (d ∷ ds) each = (each.0.1, each-stands ds each.1)
+  front-begins : (text : List ℕ) (cs : List Component) (r : List ℕ) → begins_none white (text_of (at_front (codes "@" ++ text) cs) ++ r) ≡ true
+  front-begins text cs r = ap (λ t. begins_none white (t ++ r)) (text-cons (word kinds.At (codes "@" ++ text)) (behind_keyword_again cs))
 
-  each-ready : (ls : List Leaf) → AllByRecursion IsPrintableLeaf ls → AllByRecursion LeafStands ls → AllByRecursion IsReady ls
-  each-ready [] p stands = tt
-  each-ready (l ∷ ls) p stands = ((p.0, stands.0), each-ready ls p.1 stands.1)
+  -- Conditions.
+
+  condition-reads : (c : GroupCondition) → IsPrintableCondition c → ConditionStands c → (r : List ℕ) → ReadsAlone (condition_spelling c) (codes "{" ++ r)
+  condition-reads (Media queries) fine stands r = record { on = laws.queries queries (codes "{" ++ r) fine.readable fine.values refl; begins = laws.queries_begin queries (codes "{" ++ r) fine.readable refl }
+  condition-reads (OfSupports condition) fine stands r = record { on = laws.supports condition (codes "{" ++ r) fine stands; begins = laws.supports_begin condition (codes "{" ++ r) fine }
+
+  condition-front_reads : (c : GroupCondition) → IsPrintableCondition c → ConditionStands c → (r : List ℕ) → ReadsAlone (at_front (condition_keyword c) (condition_spelling c)) (codes "{" ++ r)
+  condition-front_reads (Media queries) fine stands r = record {
+    on = front-on (codes "@media") media_keyword (queries_spelling queries) r (condition-reads (Media queries) fine stands r);
+    begins = front-begins (codes "media") (queries_spelling queries) (codes "{" ++ r);
+  }
+  condition-front_reads (OfSupports condition) fine stands r = record {
+    on = front-on (codes "@supports") supports_keyword (supports_spelling condition) r (condition-reads (OfSupports condition) fine stands r);
+    begins = front-begins (codes "supports") (supports_spelling condition) (codes "{" ++ r);
+  }
+
+  -- Values.
+
+  -- a value that stands reads as it is printed, before what begins with a stop
+  again-reads : ValueLaws → (v : List Component) → all_formed v ≡ true → ValueStands v → (r : List ℕ) → is_stop (classes_of r) ≡ true → begins_none white r ≡ true → ReadsOn (value_again v) r
+  again-reads values v formed stands r stop_r white_r =
+      let P : List Word → Type 0 = λ ws. ReadsTo (spelled ws ++ r) ws r in
+      subst P (sym (values.words v formed)) (laws.printed v stands.behind r formed stands.stop stop_r white_r stands.reads)
+
+  -- the first word of a component and what is behind it
+  record IsFirstWord (c : Component) (cs : List Component) : Type 0 where
+    first : Word
+    more : List Word
+    is : words_all (c ∷ cs) ≡ first ∷ more
+    kind : first.kind ≡ head_kind c
+
+  first-word : (c : Component) (cs : List Component) → IsFirstWord c cs
+  first-word c cs = elim (shape_of c) [
+    | inl s ↦ record {
+      first = word_of s.0;
+      more = words_all cs;
+      is = ap (λ d. words_all (d ∷ cs)) s.1 ∙ ap (λ (ps : List Piece). map word_of (ps ++ pieces_all cs)) (pieces_of-Single s.0);
+      kind = sym (ap head_kind s.1 ∙ head_kind-Single s.0);
+    }
+    | inr b ↦ record {
+      first = word_of b.0.opening;
+      more = map word_of ((pieces_all b.0.items ++ closing b.0.opening b.0.close ∷ []) ++ pieces_all cs);
+      is = ap (λ d. words_all (d ∷ cs)) b.1 ∙ ap (λ (ps : List Piece). map word_of (ps ++ pieces_all cs)) (pieces_of-Block b.0);
+      kind = sym (ap head_kind b.1 ∙ head_kind-Block b.0);
+    }
+  ]
+
+  -- what reads so begins with its first word
+  begins-first : (c : Component) (cs : List Component) (r : List ℕ) → (is : IsFirstWord c cs) → ReadsOn (c ∷ cs) r → StaysFirst is.first (spelled is.more ++ r)
+  begins-first c cs r is reads =
+      let P : List Word → Type 0 = λ ws. ReadsTo (spelled ws ++ r) ws r in
+      let First_of : List ℕ → Type 0 = λ t. First t is.first in
+      subst First_of (append_assoc is.first.text (spelled is.more) r) (subst P is.is reads).0
+
+  gap-white : (k : Kind) → is_gap_kind k ≡ false → is_white k ≡ false
+  gap-white kinds.White e = e
+  gap-white _ e = refl
+
+  -- a printed value begins with no white space, before what begins with none
+  again-begins : ValueLaws → (v : List Component) (r : List ℕ) → begins_none white r ≡ true → ReadsOn (value_again v) r → begins_none white (text_of (value_again v) ++ r) ≡ true
+  again-begins values v r white_r reads = at (value_again v) refl reads
+    where
+      at : (cs : List Component) → value_again v ≡ cs → ReadsOn cs r → begins_none white (text_of cs ++ r) ≡ true
+      at [] e on = white_r
+      at (c ∷ cs) e on =
+          let is = first-word c cs in
+          let solid = not_true (is_gap_kind (head_kind c)) (values.starts v cs c e) in
+          ap (λ ws. begins_none white (spelled ws ++ r)) is.is
+          ∙ ap (begins_none white) (append_assoc is.first.text (spelled is.more) r)
+          ∙ laws.solid_first is.first (spelled is.more ++ r) (begins-first c cs r is on) (gap-white is.first.kind (ap is_gap_kind is.kind ∙ solid))
+
+  -- what reads so has a text where it is anything
+  some-text : (cs : List Component) (r : List ℕ) → ReadsOn cs r → HasText cs
+  some-text [] r on = inl refl
+  some-text (c ∷ cs) r on =
+      let is = first-word c cs in
+      let named = laws.word_spelled (is.first.text ++ (spelled is.more ++ r)) is.first (begins-first c cs r is on) in
+      let some : IsSome (spelled (is.first ∷ is.more)) = some-left is.first.text (spelled is.more) (spells-some is.first.kind is.first.text named) in
+      inr (subst (λ (ws : List Word). IsSome (spelled ws)) (sym is.is) some)
+
+  behind_texts : ValueLaws → BehindTexts
+  behind_texts values = record {
+    condition = λ c fine stands. some-text (condition_spelling c) (codes "{" ++ []) (condition-reads c fine stands []).on;
+    value = λ v formed stands. some-text (value_again v) (codes "{" ++ []) (again-reads values v formed stands (codes "{" ++ []) refl refl);
+  }
+
+  passed-front_reads : ValueLaws → (rule : Passed) → IsPrintablePassed rule → ValueStands rule.prelude → (r : List ℕ) → ReadsAlone (at_front (codes "@" ++ keyword_of rule.kind) (value_again rule.prelude)) (codes "{" ++ r)
+  passed-front_reads values rule fine stands r =
+      let prelude = value_again rule.prelude in
+      let on = again-reads values rule.prelude fine.prelude.formed stands (codes "{" ++ r) refl refl in
+      let alone : ReadsAlone prelude (codes "{" ++ r) = record { on = on; begins = again-begins values rule.prelude (codes "{" ++ r) refl on } in
+      record {
+        on = front-on (codes "@" ++ keyword_of rule.kind) (passed_keyword rule.kind) prelude r alone;
+        begins = front-begins (keyword_of rule.kind) prelude (codes "{" ++ r);
+      }
+
+  all-read : (xs : List Item) → AllByRecursion (λ x. ReadsItem (item_again x)) xs → ReadsItem (items_again xs)
+  all-read [] each = nothing-reads
+  all-read (x ∷ xs) each = append-reads (item_again x) (items_again xs) each.0 (all-read xs each.1)
+
+  -- what is in the block of a group reads behind a line feed
+  inner-reads : (xs : List Item) → ReadsItem (items_again xs) → (r : List ℕ) → ReadsOn (line_feed ∷ items_again xs) (codes "}" ++ r)
+  inner-reads xs each r =
+      let inner = each (codes "}" ++ r) refl in
+      on-cons (word kinds.White (10 ∷ [])) (items_again xs) (codes "}" ++ r) refl (laws.fed (text_of (items_again xs) ++ (codes "}" ++ r)) inner.begins) inner.on
 
   abbrev ItemReads : Item → Type 0
   ItemReads x = ReadsItem (item_again x)
 
   reads-cases : ValueLaws → TopCases IsReady ItemReads
   reads-cases values = record {
-    empty = λ s none. subst ReadsItem (sym (again-empty s none)) nothing-reads;
+    hollow = λ x none. subst ReadsItem (sym none.again) nothing-reads;
     rule = λ s run fine each.
         let ds = run.first ∷ run.more in
         subst ReadsItem (sym (again-run s run))
-        (braced-reads s.selectors (declarations_again ds) fine.0.readable (declarations-read values run.first run.more (each-printable ds each) (each-stands ds each)));
+        (braced-reads (list_spelling s.selectors) (declarations_again ds) (list-reads s.selectors fine.0.readable) (declarations-read values run.first run.more (each-printable ds each) (each-stands ds each)));
+    group = λ g full fine each.
+        let c = g.condition in
+        let inside = line_feed ∷ items_again g.items in
+        let whole = again-full g full ∙ ap (λ cs. cs ++ braces inside ∷ line_feed ∷ []) (condition-front c) in
+        subst ReadsItem (sym whole) (braced-reads (at_front (condition_keyword c) (condition_spelling c)) inside (condition-front_reads c fine.0 fine.1) (inner-reads g.items (all-read g.items each)));
+    passed = λ rule fine.
+        subst ReadsItem (sym (again-passed rule))
+        (braced-reads (at_front (codes "@" ++ keyword_of rule.kind) (value_again rule.prelude)) (value_again rule.block) (passed-front_reads values rule fine.0 fine.1.0)
+        (λ r. again-reads values rule.block fine.0.block.formed fine.1.1 (codes "}" ++ r) refl refl));
   }
-
-  all-read : (xs : List Item) → AllByRecursion ItemReads xs → ReadsItem (items_again xs)
-  all-read [] each = nothing-reads
-  all-read (x ∷ xs) each = append-reads (item_again x) (items_again xs) each.0 (all-read xs each.1)
 
   -- the text of printed items reads as the words of their components
   pub items-read-on : ValueLaws → (xs : List Item) → ArePrintable xs → AllStand xs → Reads (items_text xs) (words_all (items_again xs))
   items-read-on values xs p stands =
       let text = items_text xs in
-      let all = by_tops IsReady ItemReads (reads-cases values) xs p.tops (each-ready (all_leaves xs) p.fine stands) in
+      let all = by_ready ItemReads (reads-cases values) xs p stands in
       let P : List ℕ → Type 0 = λ t. ReadsTo t (words_all (items_again xs)) [] in
       let behind : after_mark text ≡ text = ap (λ n. drop n text) (items-unmarked laws.texts xs p) in
-      let reads : P text = subst P (append-nil (text_of (items_again xs)) ∙ items-spelled values xs p) (all-read xs all [] refl).on in
-      (ap bad_place behind ∙ clean-bad text (items-clean laws.texts xs p), subst P (sym behind) reads)
+      let reads : P text = subst P (append-nil (text_of (items_again xs)) ∙ items-spelled values (behind_texts values) xs p stands) (all-read xs all [] refl).on in
+      (ap bad_place behind ∙ clean-bad text (items-clean laws.texts xs p stands), subst P (sym behind) reads)

@@ -9,7 +9,8 @@ use Rattle.css_rules.specs.Components.{is_braces, is_semicolon}
 use Rattle.css_rules.specs.Cuts.{trimmed_start}
 use Rattle.css_rules.specs.Declarations.{begins_custom}
 use Rattle.css_rules.specs.ReadAll.{joined, read_all}
-use Rattle.css_rules.specs.Sheets.{declarations_of, ends_item, item_of}
+use Rattle.css_rules.specs.Sheets.{declarations_of, item_of}
+use Rattle.css_rules.specs.RuleEnds.{ends_item}
 use Rattle.sheet_types.specs.BareItems.{bared}
 use Rattle.sheet_types.specs.Statements.{BareDeclaration}
 use Rattle.css_rules.specs.Printable.{IsPrintableDeclaration}

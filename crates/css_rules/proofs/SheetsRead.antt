@@ -1,5 +1,5 @@
 -- Components have a sheet exactly where it is refused for nothing, part by part.
-use Rattle.std.proofs.Common.{◌≡◌, ◌≢◌, ℕ, List, [], ◌∷◌, ◌++◌, Bool, true, false, ◌||◌, Option, Some, None, refl, sym, ◌∙◌, ap, subst, cond, length, map, ◌≤◌, arith}
+use Rattle.std.proofs.Common.{◌≡◌, ◌≢◌, ℕ, List, [], ◌∷◌, ◌++◌, Bool, true, false, ◌||◌, Option, Some, None, MatchOption, refl, sym, ◌∙◌, ap, subst, cond, length, map, flat_map, ◌≤◌, arith}
 use Rattle.std.specs.Prelude.{is_some, Result, Ok, Err}
 use Rattle.css_tokens.specs.Piece.{Piece}
 use Rattle.css_tokens.specs.Trees.{pieces_all}
@@ -8,14 +8,23 @@ use Rattle.css_rules.specs.declared.refusal.Refusal.{Refusal}
 use Rattle.selector_types.specs.declared.selector.Selector.{Selector}
 use Rattle.sheet_types.specs.declared.sheet.Declaration.{Declaration}
 use Rattle.sheet_types.specs.declared.sheet.Sheet.{Sheet}
-use Rattle.css_rules.specs.Components.{head, inside}
+use Rattle.css_rules.specs.declared.at_rule.AtRule.{AtRule}
+use Rattle.css_rules.specs.declared.at_rule.AtRule.TheVariants as rules
+use Rattle.css_rules.specs.declared.refusal.Sought.TheVariants.{RevertLayerOrUrl}
+use Rattle.sheet_types.specs.declared.sheet.Item.{Item, Group, Passed}
+use Rattle.css_rules.specs.AtRules.{at_rule_of}
+use Rattle.css_rules.specs.NestedRules.{in_block}
+use Rattle.css_rules.specs.ReadAll.{read_all}
+use Rattle.css_rules.specs.Components.{head, inside, is_braces}
 use Rattle.css_rules.specs.Cuts.{Cut, cuts, trimmed}
 use Rattle.css_rules.specs.Declarations.{declaration_of}
 use Rattle.css_rules.specs.Refusals.{first_refusal, first_waiting, unbuilt, unbuilt_at, waiting_in, has_sought, sought_for, sought_in, is_unbuilt_property}
 use Rattle.selector_tree.specs.Signs.{list_in, list_reading, mark_of, read}
-use Rattle.css_rules.specs.Sheets.{begins_at_rule, ends_rule, ends_item, is_unbuilt, built, plain_item, is_rule, item_of, declarations_of, prelude_of, style_with, first_place, leftover, style_of, rule_of, rules_of, sheet_of, declaration_refusals, plain_refusals, mark_place, item_refusals, block_refusals, unread, prelude_refusals, leftover_refusals, style_refusals, rule_refusals, sheet_refusals}
+use Rattle.css_rules.specs.Sheets.{at_rule_items, at_rule_refusals, reading, refusing, is_unbuilt, built, plain_item, is_rule, item_of, declarations_of, prelude_of, style_with, first_place, leftover, style_of, rule_of, rules_of, sheet_of, declaration_refusals, plain_refusals, mark_place, item_refusals, block_refusals, unread, prelude_refusals, leftover_refusals, style_refusals, rule_refusals, sheet_refusals}
+use Rattle.css_rules.specs.RuleEnds.{begins_at_rule, block_of, ends_in_braces, ends_rule, ends_item}
 use Rattle.css_rules.proofs.ListsRead.{list-given, list-read}
-use Rattle.css_rules.proofs.ReadAllLemmas.{Told, left-none, right-none, told-all, told-mapped, told-read, told-refused}
+use Rattle.css_rules.proofs.ReadAllLemmas.{Told, left-none, right-none, told-all, told-joined, told-mapped, told-read, told-refused}
+use Rattle.css_rules.proofs.NestedRules.{InBlocks, by_blocks, rules-read, rules-refused}
 use Rattle.css_rules.proofs.SoughtTold.{sought-none, sought-some}
 use Rattle.css_rules.proofs.RefusalLemmas.{first_refusal-none}
 use Rattle.std.specs.Option.{option_to_list}
@@ -90,12 +99,64 @@ style-told prelude (Some block) =
     with-told (first_place (trimmed prelude) (head block).at) (prelude_of prelude) (declarations_of (inside block)) (prelude_refusals prelude (head block).at) (block_refusals (inside block))
     (prelude-told prelude (head block).at) (block-told (inside block))
 
-rule-told : (cut : Cut) → Told (rule_of cut) (rule_refusals cut)
-rule-told cut =
-    waits-told (begins_at_rule (trimmed cut.front)) (first_place (trimmed cut.front) 0) (style_of cut.front cut.mark) (style_refusals cut.front cut.mark) (style-told cut.front cut.mark)
+-- one of two
+choice-told : {A : Type 0} (b : Bool) (o p : Option A) (rs ss : List Refusal) → Told o rs → Told p ss → Told (cond b o p) (cond b rs ss)
+choice-told true o p rs ss h k = h
+choice-told false o p rs ss h k = k
+
+-- a rule that is passed on, by what stands before its block and in it
+passed-told : (x : Item) (prelude block : List Component) (a b : Bool) → has_sought RevertLayerOrUrl prelude ≡ a → has_sought RevertLayerOrUrl block ≡ b
+    → Told (cond (a || b) None (Some (x ∷ []))) (sought_in RevertLayerOrUrl prelude ++ sought_in RevertLayerOrUrl block)
+passed-told x prelude block true b before within =
+    let found = sought-some RevertLayerOrUrl prelude before in
+    λ none. (let clash = sym found.2 ∙ left-none (sought_in RevertLayerOrUrl prelude) (sought_in RevertLayerOrUrl block) none in cc clash)
+passed-told x prelude block false true before within =
+    let found = sought-some RevertLayerOrUrl block within in
+    λ none. (let clash = sym found.2 ∙ right-none (sought_in RevertLayerOrUrl prelude) (sought_in RevertLayerOrUrl block) none in cc clash)
+passed-told x prelude block false false before within =
+    ap (λ rs. rs ++ sought_in RevertLayerOrUrl block) (sought-none RevertLayerOrUrl prelude before) ∙ sought-none RevertLayerOrUrl block within
+
+at-rule-told : (at : ℕ) (rule : AtRule) (block : List Component) (inner : Option (List Item)) (rs : List Refusal) → Told inner rs → Told (at_rule_items at rule block inner) (at_rule_refusals at rule block rs)
+at-rule-told at (rules.Group condition) block inner rs told = told-mapped (λ items. Group (record { condition = condition; items = items; at = at }) ∷ []) inner rs told
+at-rule-told at (rules.PassedOn kind prelude) block inner rs told =
+    passed-told (Passed (record { kind = kind; prelude = prelude; block = block; at = at })) prelude block (has_sought RevertLayerOrUrl prelude) (has_sought RevertLayerOrUrl block) refl refl
+at-rule-told at rules.Waiting block inner rs told = λ e. cc e
+at-rule-told at rules.Unknown block inner rs told = refl
+at-rule-told at rules.Unread block inner rs told = λ e. cc e
+
+-- components that have a sheet exactly where it is refused for nothing
+abbrev IsTold : List Component → Type 0
+IsTold cs = Told (rules_of cs) (sheet_refusals cs)
+
+block-rules-told : (mark : Option Component) → MatchOption mark (Unit {0}) (λ c. IsTold (inside c)) → Told (in_block reading rules_of mark) (in_block refusing sheet_refusals mark)
+block-rules-told None told = refl
+block-rules-told (Some mark) told = choice-told (is_braces mark) (rules_of (inside mark)) (Some []) (sheet_refusals (inside mark)) [] told refl
+
+rule-told : (cut : Cut) → MatchOption cut.mark (Unit {0}) (λ c. IsTold (inside c)) → Told (rule_of cut) (rule_refusals cut)
+rule-told cut told =
+    let rule = trimmed cut.front in
+    let at_rule = at_rule_of rule (ends_in_braces cut.mark) in
+    let inner = in_block reading rules_of cut.mark in
+    let refused = in_block refusing sheet_refusals cut.mark in
+    choice-told (begins_at_rule rule) (at_rule_items (first_place rule 0) at_rule (block_of cut.mark) inner) (style_of cut.front cut.mark)
+    (at_rule_refusals (first_place rule 0) at_rule (block_of cut.mark) refused) (style_refusals cut.front cut.mark)
+    (at-rule-told (first_place rule 0) at_rule (block_of cut.mark) inner refused (block-rules-told cut.mark told))
+    (style-told cut.front cut.mark)
+
+all-told : (cs : List Cut) → InBlocks IsTold cs → Told (read_all rule_of cs) (flat_map rule_refusals cs)
+all-told [] told = refl
+all-told (cut ∷ cs) told = told-joined (rule_of cut) (read_all rule_of cs) (rule_refusals cut) (flat_map rule_refusals cs) (rule-told cut told.0) (all-told cs told.1)
+
+rules-told : (cs : List Component) → IsTold cs
+rules-told cs =
+    by_blocks IsTold
+    (λ cs told.
+    subst (λ o. Told o (sheet_refusals cs)) (sym (rules-read cs))
+    (subst (λ rs. Told (read_all rule_of (cuts ends_rule cs)) rs) (sym (rules-refused cs)) (all-told (cuts ends_rule cs) told)))
+    cs
 
 sheet-told : (cs : List Component) → Told (sheet_of cs) (sheet_refusals cs)
-sheet-told cs = told-mapped (λ items. record { items = items }) (rules_of cs) (sheet_refusals cs) (told-all rule_of rule_refusals rule-told (cuts ends_rule cs))
+sheet-told cs = told-mapped (λ items. record { items = items }) (rules_of cs) (sheet_refusals cs) (rules-told cs)
 
 pub sheet-read : (cs : List Component) (sheet : Sheet) → sheet_of cs ≡ Some sheet → sheet_refusals cs ≡ []
 sheet-read cs sheet e = told-read (sheet_of cs) sheet (sheet_refusals cs) (sheet-told cs) e

@@ -15,7 +15,7 @@ use Rattle.css_tokens.specs.Values.{is_gap as is_gap_kind}
 use Rattle.css_rules.specs.Components.{head, is_gap, is_braces, is_semicolon, is_semicolon_kind, is_delim_kind, is_bang, is_ident, is_keyword, name_of}
 use Rattle.css_rules.specs.Cuts.{Cut, cuts_behind, with_front, trimmed, trimmed_start, trimmed_end}
 use Rattle.css_rules.specs.Declarations.{is_important}
-use Rattle.css_rules.specs.Sheets.{ends_in_braces}
+use Rattle.css_rules.specs.RuleEnds.{ends_in_braces}
 use Rattle.css_rules.proofs.CutAgain.{trimmed_end-solid}
 use Rattle.css_rules.proofs.CutLemmas.{cuts-unmarked, cuts-marked, trimmed_start-gap, trimmed_start-other}
 use Rattle.css_rules.proofs.Heads.{head-Single, ident-Single, ident-Block, gap-Single, gap-Block, semicolon-Single, semicolon-Block, bang-Single, bang-Block}

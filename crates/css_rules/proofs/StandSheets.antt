@@ -1,32 +1,45 @@
 -- Each value of a sheet stands in the sheet's text before a stop.
-use Rattle.std.proofs.Common.{◌≡◌, ℕ, List, [], ◌∷◌, ◌++◌, Bool, true, false, ◌&&◌, ◌||◌, not, refl, sym, ◌∙◌, ap, subst, Option, Some, None, inl, inr}
+use Rattle.std.proofs.Common.{◌≡◌, ℕ, List, [], ◌∷◌, ◌++◌, Bool, true, false, ◌&&◌, ◌||◌, not, refl, sym, ◌∙◌, ap, subst, Option, Some, None, inl, inr, IsTrue}
 use Rattle.std.specs.Prelude.{if◌then◌else◌}
-use Rattle.std.specs.List.{AllByRecursion}
+use Rattle.std.specs.List.{list_all, AllByRecursion}
 use Rattle.std.proofs.lemmas.List.{append-nil}
 use Rattle.std.proofs.lemmas.List.Concat.{flat_map-append}
 use Rattle.css_tokens.specs.declared.component.Component.{Component}
 use Rattle.css_tokens.specs.Again.{is_stop}
 use Rattle.css_tokens.specs.Piece.{Piece, spelled}
 use Rattle.css_tokens.specs.Tokens.{Reads, ReadsTo, classes_of, after_mark}
-use Rattle.css_tokens.specs.Trees.{words_all}
+use Rattle.css_tokens.specs.Trees.{all_formed, words_all}
+use Rattle.media_spelling.specs.declared.supports.Supports.{Supports as Condition}
+use Rattle.media_spelling.specs.SupportsValues.{DeclaredValuesStand, ValueStands as StandsAsValue}
+use Rattle.media_tree.specs.SpelledWords.{AreRead, is_spelled}
+use Rattle.media_tree.specs.SupportsReading.{supports_reading}
 use Rattle.sheet_types.specs.declared.sheet.Declaration.{Declaration}
+use Rattle.sheet_types.specs.declared.sheet.Group as group
+use Rattle.sheet_types.specs.declared.sheet.GroupCondition.{GroupCondition}
+use Rattle.sheet_types.specs.declared.sheet.GroupCondition.TheVariants.{Media, Supports}
 use Rattle.sheet_types.specs.declared.sheet.Item.{Item}
 use Rattle.sheet_types.specs.declared.sheet.Item as item
+use Rattle.sheet_types.specs.declared.sheet.Passed.{Passed}
 use Rattle.sheet_types.specs.declared.sheet.Style as style
 use Rattle.sheet_types.specs.declared.sheet.Sheet.{Sheet}
 use Rattle.css_rules.specs.Components.{head, inside, is_ident, is_colon, is_bang, is_semicolon, is_braces, is_custom, name_of}
 use Rattle.css_rules.specs.Cuts.{Cut, cuts, cuts_at, trimmed, trimmed_start}
 use Rattle.css_rules.specs.Declarations.{property_name, after_colon, may_be_value, is_important, value_of, declared, declared_after, declaration_of, begins_custom}
-use Rattle.sheet_types.specs.Leaves.{all_leaves, leaves}
-use Rattle.css_rules.specs.Sheets.{ends_rule, ends_item, item_of, declarations_of, rule_of, sheet_of}
+use Rattle.sheet_types.specs.Leaves.{Leaf, all_leaves, group_leaves, leaves}
+use Rattle.css_rules.specs.Sheets.{item_of, declarations_of, sheet_of}
+use Rattle.css_rules.specs.RuleEnds.{ends_item}
 use Rattle.sheet_types.specs.Runs.{run_of}
-use Rattle.sheet_types.specs.Standing.{Stands, LeafStands, AllStand}
+use Rattle.sheet_types.specs.Standing.{ConditionStands, Stands, LeafStands, AllStand}
+use Rattle.css_rules.proofs.AtRuleShapes.{ReadsCondition}
 use Rattle.css_rules.proofs.FromSourceDeclarations.{each-append}
+use Rattle.css_rules.proofs.FromSourceParts.{all-sound, sound-formed, sound-spelled}
+use Rattle.css_rules.proofs.GroupLeaves.{leaves-Group, leaves-Passed, leaves-Other}
 use Rattle.sheet_types.proofs.ItemShapes.{leaves-hold, only-leaves}
-use Rattle.css_rules.proofs.StandCuts.{JoinsAt, Joins, joins-cuts, stands-start, stands-trimmed, MarkStands, FrontStands, ends_some_item, item-fronts, marks-stand, bang-stop}
+use Rattle.css_rules.proofs.StandCuts.{JoinsAt, Joins, joins-cuts, stands-start, stands-trimmed, FrontStands, ends_some_item, item-fronts, bang-stop}
 use Rattle.css_rules.proofs.ReadAllLemmas.{read_all-holds}
-use Rattle.css_rules.proofs.RuleShapes.{item-no_block, item-shape, rule-shape, sheet-items}
-use Rattle.css_rules.proofs.StandLists.{ReadingLaws, StandsAt, StandsBefore, text-spelled, stands-front, stands-back, stands-tail, stands-inside}
+use Rattle.css_rules.proofs.RuleShapes.{IsStyled, item-no_block, item-shape, sheet-items}
+use Rattle.css_rules.proofs.SourceRules.{AreStopped, IsReadPassed, ReadCases, items-hold}
+use Rattle.css_rules.proofs.StandLists.{ReadingLaws, StandsAt, StandsBefore, text-spelled, stands-front, stands-back, stands-tail}
 
 abbrev OfSome : {X : Type 0} → (X → Type 0) → Option X → Type 0
 OfSome P None = Unit {0}
@@ -133,30 +146,62 @@ module _ (laws : ReadingLaws) where
       (item-fronts laws (cuts ends_item block) block stands.behind (joins-cuts ends_some_item ends_item item-ends [] block) (record { reads = stands.reads }) stands.stop)
       ds e
 
-  -- Rules.
+  -- Items.
 
   style-stands : (s : style.Style) (ds : List Declaration) → s.items ≡ run_of ds → AllByRecursion Stands ds → AllStand (item.Style s ∷ [])
   style-stands s ds is each = subst (AllByRecursion LeafStands) (sym (only-leaves s ds is)) (leaves-hold LeafStands s.selectors ds tt each)
 
-  both-stand : (xs ys : List Item) → AllStand xs → AllStand ys → AllStand (xs ++ ys)
-  both-stand xs ys h k = subst (AllByRecursion LeafStands) (sym (flat_map-append leaves xs ys)) (each-append LeafStands (all_leaves xs) (all_leaves ys) h k)
+  style-read : (cut : Cut) (items : List Item) (s : IsStyled cut items) → StandsBefore (inside s.block) → AllStand items
+  style-read cut items s before = subst AllStand (sym s.is) (style-stands (record { selectors = s.list; items = run_of s.ds; at = s.at }) s.ds refl (block-stands (inside s.block) s.ds before s.inner))
 
-  abbrev CutStands : Cut → Type 0
-  CutStands cut = MarkStands cut.mark
+both-stand : (xs ys : List Item) → AllStand xs → AllStand ys → AllStand (xs ++ ys)
+both-stand xs ys h k = subst (AllByRecursion LeafStands) (sym (flat_map-append leaves xs ys)) (each-append LeafStands (all_leaves xs) (all_leaves ys) h k)
 
-  rule-stands : (cut : Cut) (items : List Item) → CutStands cut → rule_of cut ≡ Some items → AllStand items
-  rule-stands cut items stands e = elim (rule-shape cut items e) [
-    | inl none ↦ subst AllStand (sym none) tt
-    | inr s ↦
-        let before = subst (λ (o : Option Component). MarkStands o) s.mark stands in
-        subst AllStand (sym s.is)
-        (style-stands (record { selectors = s.list; items = run_of s.ds; at = s.at }) s.ds refl (block-stands (inside s.block) s.ds (stands-inside laws s.block before.0 before.1) s.inner))
-  ]
+-- Groups and rules that are passed on.
 
-  pub sheet-stands : (text : List ℕ) (cs : List Component) (sheet : Sheet) → Reads text (words_all cs) → sheet_of cs ≡ Some sheet → AllStand sheet.items
-  sheet-stands text cs sheet reads e =
+group-leaves : (c : GroupCondition) (ls : List Leaf) → ConditionStands c → AllByRecursion LeafStands ls → AllByRecursion LeafStands (group_leaves c ls)
+group-leaves c [] stands each = tt
+group-leaves c (l ∷ ls) stands each = (stands, each)
+
+group-stands : (g : group.Group) → ConditionStands g.condition → AllStand g.items → AllStand (item.Group g ∷ [])
+group-stands g stands inner = subst (AllByRecursion LeafStands) (sym (leaves-Group g)) (group-leaves g.condition (all_leaves g.items) stands inner)
+
+stopped-value : (cs : List Component) → AreStopped is_spelled cs → StandsAsValue cs
+stopped-value cs stopped = record { behind = stopped.before.behind; stop = stopped.before.stop; reads = stopped.before.reads }
+
+passed-stands : (rule : Passed) → IsReadPassed is_spelled rule → AllStand (item.Passed rule ∷ [])
+passed-stands rule r = subst (AllByRecursion LeafStands) (sym (leaves-Passed rule)) ((stopped-value rule.prelude r.prelude, stopped-value rule.block r.block), tt)
+
+other-stands : (at : ℕ) → AllStand (item.Other at ∷ [])
+other-stands at = subst (AllByRecursion LeafStands) (sym (leaves-Other at)) tt
+
+-- Sheets.
+
+-- what is ensured of texts and of supports conditions
+pub record StandingLaws : Type 0 where
+  pub reading : ReadingLaws
+  pub spelled : (t : List ℕ) (cs : List Component) → Reads t (words_all cs) → IsTrue (list_all is_spelled (words_all cs))
+  pub supports : (cs : List Component) (s : Condition) → IsTrue (all_formed cs) → IsTrue (list_all is_spelled (words_all cs)) → AreRead cs → supports_reading cs ≡ Some s → DeclaredValuesStand s
+
+module _ (laws : StandingLaws) where
+  condition-stands : (c : GroupCondition) (cs : List Component) → AreStopped is_spelled cs → ReadsCondition cs c → ConditionStands c
+  condition-stands (Media queries) cs stopped read = tt
+  condition-stands (Supports s) cs stopped read =
+      laws.supports cs s (sound-formed is_spelled cs stopped.sound) (sound-spelled is_spelled cs stopped.sound) (record { behind = stopped.before.behind; reads = stopped.before.reads }) read
+
+  cases : ReadCases is_spelled AllStand
+  cases = record {
+    nothing = tt;
+    both = both-stand;
+    style = λ cut items s sound block. style-read laws.reading cut items s block.before;
+    group = λ g prelude stopped read inner. group-stands g (condition-stands g.condition prelude stopped read) inner;
+    passed = passed-stands;
+    other = other-stands;
+  }
+
+  pub sheet-stands : (text : List ℕ) (cs : List Component) (sheet : Sheet) → Reads text (words_all cs) → IsTrue (all_formed cs) → sheet_of cs ≡ Some sheet → AllStand sheet.items
+  sheet-stands text cs sheet reads formed e =
       let whole : StandsAt cs [] = record { reads = subst (λ (t : List ℕ). ReadsTo t (words_all cs) []) (text-spelled (after_mark text) (words_all cs) [] reads.1) reads.1 } in
-      let anything : Component → Bool = λ c. true in
-      read_all-holds AllStand CutStands rule_of tt both-stand rule-stands (cuts ends_rule cs)
-      (marks-stand laws anything (cuts ends_rule cs) cs [] (joins-cuts anything ends_rule (λ b c e. refl) [] cs) whole)
+      items-hold laws.reading is_spelled AllStand cases cs
+      (record { sound = all-sound is_spelled cs formed (laws.spelled text cs reads); behind = []; stands = whole })
       sheet.items (sheet-items cs sheet e)

@@ -142,7 +142,7 @@ braces_layer = record {
 }
 
 -- what is solid is no gap
-solid_no_gap : (c : Component) → is_solid c ≡ true → is_gap c ≡ false
+pub solid_no_gap : (c : Component) → is_solid c ≡ true → is_gap c ≡ false
 solid_no_gap c solid = elim (shape_of c) [
   | inl s ↦ ap is_gap s.1 ∙ gap-Single s.0 ∙ kinds_agree s.0.kind (sym (solid-Single s.0) ∙ sym (ap is_solid s.1) ∙ solid)
   | inr b ↦ ap is_gap b.1 ∙ gap-Block b.0

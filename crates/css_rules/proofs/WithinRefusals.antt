@@ -1,5 +1,5 @@
 -- What a sheet is refused for stands within its text.
-use Rattle.std.proofs.Common.{◌≡◌, ℕ, ◌≤◌, List, [], ◌∷◌, Bool, true, false, ◌&&◌, ◌||◌, not, Option, Some, None, MatchOption, flat_map, arith, ap, subst}
+use Rattle.std.proofs.Common.{◌≡◌, ℕ, ◌≤◌, List, [], ◌∷◌, Bool, true, false, ◌&&◌, ◌||◌, not, Option, Some, None, MatchOption, flat_map, arith, refl, sym, ap, subst}
 use Rattle.std.specs.Prelude.{if◌then◌else◌, Result, Ok, Err}
 use Rattle.std.specs.List.{list_all, find, AllByRecursion}
 use Rattle.std.proofs.lemmas.Bool.{leb-true}
@@ -15,10 +15,25 @@ use Rattle.css_rules.specs.Components.{head, inside, is_ident, is_colon, is_bang
 use Rattle.css_rules.specs.Cuts.{Cut, cuts, cuts_at, trimmed, trimmed_start}
 use Rattle.css_rules.specs.Declarations.{property_name, after_colon, may_be_value, is_important, value_of, declared, declared_after, declaration_of, begins_custom}
 use Rattle.css_rules.specs.Refusals.{leads, sooner, sooner_of, unbuilt, first_refusal, is_sought, unbuilt_at, waits_before, first_waiting, waiting_in, sought_for, sought_in, is_unbuilt_property}
-use Rattle.css_rules.specs.Sheets.{begins_at_rule, ends_rule, ends_item, first_place, mark_place, is_rule, declaration_refusals, plain_refusals, item_refusals, block_refusals, unread, prelude_refusals, leftover_refusals, style_refusals, rule_refusals, sheet_refusals}
+use Rattle.css_rules.specs.Sheets.{at_rule_refusals, refusing, first_place, mark_place, is_rule, declaration_refusals, plain_refusals, item_refusals, block_refusals, unread, prelude_refusals, leftover_refusals, style_refusals, rule_refusals, sheet_refusals}
+use Rattle.css_rules.specs.RuleEnds.{begins_at_rule, block_of, ends_in_braces, ends_rule, ends_item}
 use Rattle.css_rules.proofs.FromSourceDeclarations.{each-append}
 use Rattle.css_rules.proofs.FromSourceParts.{all-start, all-trimmed, IsPart, parts-cuts}
 use Rattle.css_rules.proofs.BoolLemmas.{and-left, and-right}
+use Rattle.std.specs.Option.{option_map}
+use Rattle.media_tree.specs.Queries.{queries_reading}
+use Rattle.media_tree.specs.SupportsReading.{supports_reading}
+use Rattle.sheet_types.specs.declared.sheet.GroupCondition.{GroupCondition}
+use Rattle.sheet_types.specs.declared.sheet.GroupCondition.TheVariants as conditions
+use Rattle.sheet_types.specs.declared.sheet.PassedKind.{PassedKind}
+use Rattle.css_rules.specs.declared.at_rule.AtKeyword.{AtKeyword}
+use Rattle.css_rules.specs.declared.at_rule.AtKeyword.TheVariants.{Media, Supports, PassedOn, Waiting, Unknown}
+use Rattle.css_rules.specs.declared.at_rule.AtRule.{AtRule}
+use Rattle.css_rules.specs.declared.at_rule.AtRule.TheVariants as rules
+use Rattle.css_rules.specs.declared.refusal.Sought.TheVariants.{RevertLayerOrUrl}
+use Rattle.css_rules.specs.AtRules.{at_rule_of, behind_keyword, fits_prelude, grouped, keyword_in, with_block, without_block}
+use Rattle.css_rules.specs.NestedRules.{in_block}
+use Rattle.css_rules.proofs.NestedRules.{InBlocks, by_blocks, rules-refused}
 use Rattle.css_rules.proofs.Within.{is_early, is_within, early-each, within-all, pieces-early, head-within, inside-within, FaultWithin, fault-within}
 
 module _ (end : ℕ) where
@@ -169,15 +184,91 @@ module _ (end : ℕ) where
       (prelude-within prelude (head block).at h (head-within end block m))
       (block-within (inside block) (inside-within end block m))
 
-  rule-within : (cut : Cut) → IsPart (is_within end) is_braces cut → AreWithin (rule_refusals cut)
-  rule-within cut part =
-      or-unbuilt (begins_at_rule (trimmed cut.front)) (first_place (trimmed cut.front) 0) (style_refusals cut.front cut.mark)
-      (start-within (trimmed cut.front) 0 (all-trimmed (is_within end) cut.front part.kept) (omega arith))
+  -- where an at-rule that is passed on has its prelude
+  abbrev HasPrelude : AtRule → Type 0
+  HasPrelude (rules.Group condition) = Unit {0}
+  HasPrelude (rules.PassedOn kind prelude) = all_within prelude ≡ true
+  HasPrelude rules.Waiting = Unit {0}
+  HasPrelude rules.Unknown = Unit {0}
+  HasPrelude rules.Unread = Unit {0}
+
+  grouped-prelude : (o : Option GroupCondition) → HasPrelude (grouped o)
+  grouped-prelude None = tt
+  grouped-prelude (Some condition) = tt
+
+  fitting-prelude : (b : Bool) (kind : PassedKind) (prelude : List Component) → all_within prelude ≡ true → HasPrelude (if b then rules.PassedOn kind prelude else rules.Unread)
+  fitting-prelude true kind prelude h = h
+  fitting-prelude false kind prelude h = tt
+
+  block-prelude : (keyword : AtKeyword) (prelude : List Component) → all_within prelude ≡ true → HasPrelude (with_block keyword prelude)
+  block-prelude Media prelude h = grouped-prelude (option_map conditions.Media (queries_reading prelude))
+  block-prelude Supports prelude h = grouped-prelude (option_map conditions.Supports (supports_reading prelude))
+  block-prelude (PassedOn kind) prelude h = fitting-prelude (fits_prelude kind prelude) kind prelude h
+  block-prelude Waiting prelude h = tt
+  block-prelude Unknown prelude h = tt
+
+  bare-prelude : (keyword : AtKeyword) → HasPrelude (without_block keyword)
+  bare-prelude Media = tt
+  bare-prelude Supports = tt
+  bare-prelude (PassedOn kind) = tt
+  bare-prelude Waiting = tt
+  bare-prelude Unknown = tt
+
+  behind-within : (rule : List Component) → all_within rule ≡ true → all_within (behind_keyword rule) ≡ true
+  behind-within [] h = refl
+  behind-within (c ∷ cs) h = all-trimmed (is_within end) cs (and-right (is_within end c) (all_within cs) h)
+
+  told-prelude : (rule : List Component) (has_block : Bool) → all_within rule ≡ true → HasPrelude (at_rule_of rule has_block)
+  told-prelude rule true h = block-prelude (keyword_in rule) (behind_keyword rule) (behind-within rule h)
+  told-prelude rule false h = bare-prelude (keyword_in rule)
+
+  at-rule-within : (at : ℕ) (rule : AtRule) (block : List Component) (inner : List Refusal) → at ≤ end → HasPrelude rule → all_within block ≡ true → AreWithin inner → AreWithin (at_rule_refusals at rule block inner)
+  at-rule-within at (rules.Group condition) block inner h prelude within each = each
+  at-rule-within at (rules.PassedOn kind prelude) block inner h before within each =
+      each-append IsWithin (sought_in RevertLayerOrUrl prelude) (sought_in RevertLayerOrUrl block) (sought-within RevertLayerOrUrl prelude before) (sought-within RevertLayerOrUrl block within)
+  at-rule-within at rules.Waiting block inner h prelude within each = (h, tt)
+  at-rule-within at rules.Unknown block inner h prelude within each = tt
+  at-rule-within at rules.Unread block inner h prelude within each = (h, tt)
+
+  choice-within : (b : Bool) (rs ss : List Refusal) → AreWithin rs → AreWithin ss → AreWithin (if b then rs else ss)
+  choice-within true rs ss h k = h
+  choice-within false rs ss h k = k
+
+  -- components within the text whose refusals stand within it
+  abbrev StandWithin : List Component → Type 0
+  StandWithin cs = all_within cs ≡ true → AreWithin (sheet_refusals cs)
+
+  mark-block-within : (mark : Option Component) → MatchOption mark (Unit {0}) (λ c. is_within end c ≡ true) → all_within (block_of mark) ≡ true
+  mark-block-within None h = refl
+  mark-block-within (Some mark) h = inside-within end mark h
+
+  mark-rules-within : (mark : Option Component) → MatchOption mark (Unit {0}) (λ c. StandWithin (inside c)) → MatchOption mark (Unit {0}) (λ c. is_within end c ≡ true) → AreWithin (in_block refusing sheet_refusals mark)
+  mark-rules-within None each h = tt
+  mark-rules-within (Some mark) each h = choice-within (is_braces mark) (sheet_refusals (inside mark)) [] (each (inside-within end mark h)) tt
+
+  rule-within : (cut : Cut) → MatchOption cut.mark (Unit {0}) (λ c. StandWithin (inside c)) → IsPart (is_within end) is_braces cut → AreWithin (rule_refusals cut)
+  rule-within cut each part =
+      let rule = trimmed cut.front in
+      let kept = all-trimmed (is_within end) cut.front part.kept in
+      let at_rule = at_rule_of rule (ends_in_braces cut.mark) in
+      let inner = in_block refusing sheet_refusals cut.mark in
+      choice-within (begins_at_rule rule) (at_rule_refusals (first_place rule 0) at_rule (block_of cut.mark) inner) (style_refusals cut.front cut.mark)
+      (at-rule-within (first_place rule 0) at_rule (block_of cut.mark) inner (start-within rule 0 kept (omega arith)) (told-prelude rule (ends_in_braces cut.mark) kept)
+      (mark-block-within cut.mark part.closed) (mark-rules-within cut.mark each part.closed))
       (style-within cut.front cut.mark part.kept part.closed)
 
-  rules-within : (cs : List Cut) → AllByRecursion (IsPart (is_within end) is_braces) cs → AreWithin (flat_map rule_refusals cs)
-  rules-within [] h = tt
-  rules-within (cut ∷ cs) h = each-append IsWithin (rule_refusals cut) (flat_map rule_refusals cs) (rule-within cut h.0) (rules-within cs h.1)
+  rules-within : (cs : List Cut) → InBlocks StandWithin cs → AllByRecursion (IsPart (is_within end) is_braces) cs → AreWithin (flat_map rule_refusals cs)
+  rules-within [] each h = tt
+  rules-within (cut ∷ cs) each h = each-append IsWithin (rule_refusals cut) (flat_map rule_refusals cs) (rule-within cut each.0 h.0) (rules-within cs each.1 h.1)
+
+  sheet-within : (cs : List Component) → StandWithin cs
+  sheet-within cs =
+      by_blocks StandWithin
+      (λ cs each h.
+      subst AreWithin (sym (rules-refused cs))
+      (rules-within (cuts ends_rule cs) each
+      (parts-cuts (is_within end) is_braces ends_rule (λ before c s. ap (λ b. b || (is_semicolon c && begins_at_rule (trimmed_start before))) s) [] cs h)))
+      cs
 
   -- The one that is named.
 
@@ -200,9 +291,7 @@ module _ (end : ℕ) where
   first-within (r ∷ rs) h = sooner_of-within r (first_refusal rs) h.0 (first-within rs h.1)
 
 pub refusals-within : (cs : List Component) (end : ℕ) → AllByRecursion (λ (p : Piece). p.at ≤ end) (pieces_all cs) → AllByRecursion (λ (r : Refusal). r.at ≤ end) (sheet_refusals cs)
-refusals-within cs end h =
-    rules-within end (cuts ends_rule cs)
-    (parts-cuts (is_within end) is_braces ends_rule (λ before c s. ap (λ b. b || (is_semicolon c && begins_at_rule (trimmed_start before))) s) [] cs (within-all end cs (early-each end (pieces_all cs) h)))
+refusals-within cs end h = sheet-within end cs (within-all end cs (early-each end (pieces_all cs) h))
 
 pub first_refusal-within : (cs : List Component) (end : ℕ) (r : Refusal) → AllByRecursion (λ (p : Piece). p.at ≤ end) (pieces_all cs) → first_refusal (sheet_refusals cs) ≡ Some r → r.at ≤ end
 first_refusal-within cs end r h e = subst (λ o. MatchOption o (Unit {0}) (λ q. q.at ≤ end)) e (first-within end (sheet_refusals cs) (refusals-within cs end h))

@@ -3,7 +3,7 @@ use Rattle.std.specs.Prelude.{ℕ, List, [], Bool, true, false, ◌&&◌, not, c
 use Rattle.std.specs.List.{starts_with}
 use Rattle.std.specs.Str.{str_to_ascii_lowercase}
 use Rattle.css_tokens.specs.declared.kind.Kind.{Kind}
-use Rattle.css_tokens.specs.declared.kind.Kind.TheVariants.{Ident, At, Colon, Semicolon, Comma, Delim}
+use Rattle.css_tokens.specs.declared.kind.Kind.TheVariants.{Ident, String, At, Colon, Semicolon, Comma, Delim}
 use Rattle.css_tokens.specs.declared.component.Component.{Component, out-Component}
 use Rattle.css_tokens.specs.declared.component.Component.TheOpen.{Component-F, Single, Block}
 use Rattle.css_tokens.specs.declared.component.Block as block
@@ -66,6 +66,11 @@ abbrev pub is_at_kind : Kind → Bool
 is_at_kind At = true
 is_at_kind _ = false
 
+-- a string?
+abbrev pub is_string_kind : Kind → Bool
+is_string_kind String = true
+is_string_kind _ = false
+
 -- a colon?
 abbrev pub is_colon_kind : Kind → Bool
 is_colon_kind Colon = true
@@ -92,6 +97,10 @@ is_comma c = is_single c && is_comma_kind (head c).kind
 -- an identifier
 abbrev pub is_ident : Component → Bool
 is_ident c = is_single c && is_ident_kind (head c).kind
+
+-- a string
+abbrev pub is_string : Component → Bool
+is_string c = is_single c && is_string_kind (head c).kind
 
 -- an at-keyword
 abbrev pub is_at_keyword : Component → Bool

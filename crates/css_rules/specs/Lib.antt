@@ -1,6 +1,9 @@
 pub mod Components
 pub mod Cuts
 pub mod Declarations
+pub mod RuleEnds
+pub mod NestedRules
+pub mod AtRules
 pub mod Refusals
 pub mod ReadAll
 pub mod Sheets

@@ -1,6 +1,6 @@
--- A style rule as it is read: it is not nested, and nothing in it waits for a later stage (CSS Syntax 3, section 9).
-use Rattle.std.specs.Prelude.{List, Bool, true, false, not, ◌≡◌, is_none}
-use Rattle.std.specs.List.{list_all, AllByRecursion}
+-- Items as they are read: no style rule is nested, and nothing waits for a later stage (CSS Syntax 3, section 9).
+use Rattle.std.specs.Prelude.{List, [], ◌∷◌, Bool, true, false, not, ◌&&◌, is_none}
+use Rattle.std.specs.List.{list_all}
 use Rattle.selector_types.specs.LoneSimples.{Opened}
 use Rattle.selector_types.specs.PartsWithin.{list_parts}
 use Rattle.selector_types.specs.declared.selector.Link.TheOpen.{Class, Id, Attribute, Pseudo, Not, Is, Where, Parent, Local, Global, Foreign}
@@ -9,11 +9,12 @@ use Rattle.selector_types.specs.declared.selector.Selector.{Selector}
 use Rattle.selector_types.specs.declared.selector.Simple.{Simple}
 use Rattle.selector_types.specs.declared.selector.Simple as simple
 use Rattle.css_rules.specs.Sheets.{is_unbuilt}
-use Rattle.sheet_types.specs.Runs.{run_of}
+use Rattle.media_tree.specs.ReadableQueries.{are_readable_queries}
+use Rattle.sheet_types.specs.ItemFold.{Steps, folded}
+use Rattle.sheet_types.specs.declared.sheet.GroupCondition.{GroupCondition}
+use Rattle.sheet_types.specs.declared.sheet.GroupCondition.TheVariants.{Media, Supports}
 use Rattle.sheet_types.specs.declared.sheet.Declaration.{Declaration}
 use Rattle.sheet_types.specs.declared.sheet.Item.{Item}
-use Rattle.sheet_types.specs.declared.sheet.Item as item
-use Rattle.sheet_types.specs.declared.sheet.Style as style
 
 -- Does it wait for a later stage: is it `&` (CSS Nesting 1, section 3) or `:is(..)` (Selectors 4, section 4.2)?
 abbrev pub opens_waiting : Opened → Bool
@@ -45,13 +46,40 @@ none_waits ps = list_all (λ p. not (is_waiting_part p)) ps
 abbrev pub is_unled : Selector → Bool
 is_unled s = is_none s.lead
 
--- The item is a style rule. No combinator leads a selector of it, and none holds `&` or `:is(..)` at any depth. Its block is
--- one run of declarations, none of which a later stage rewrites, or it is empty.
-pub record IsPlainRule (x : Item) : Type 0 where
-  pub rule : style.Style
-  pub is : x ≡ item.Style rule
-  pub unled : list_all is_unled rule.selectors ≡ true
-  pub ready : none_waits (list_parts rule.selectors) ≡ true
-  pub declarations : List Declaration
-  pub run : rule.items ≡ run_of declarations
-  pub built : AllByRecursion (λ d. is_unbuilt d ≡ false) declarations
+-- the declarations are built: no later stage rewrites one of them
+abbrev pub are_built : List Declaration → Bool
+are_built ds = list_all (λ d. not (is_unbuilt d)) ds
+
+-- a media query list with a spelling that reads as it again, or any supports condition
+abbrev pub is_plain_condition : GroupCondition → Bool
+is_plain_condition (Media queries) = are_readable_queries queries
+is_plain_condition (Supports condition) = true
+
+-- Is an item as it is read: in the block of a style rule, and at the top of a sheet or of a group?
+pub record Plain : Type 0 where
+  pub within : Bool
+  pub top : Bool
+
+-- is there nothing, or one item that is as it is read in the block of a style rule?
+abbrev pub is_one_run : List Plain → Bool
+is_one_run [] = true
+is_one_run (item ∷ []) = item.within
+is_one_run (first ∷ second ∷ items) = false
+
+-- The block of a style rule is one run of declarations, none of which a later stage rewrites, or it is empty. No combinator leads a selector of the rule, and none holds `&` or `:is(..)` at any depth. Each item of a group is as at the top of a sheet.
+abbrev pub plainness : Steps Plain
+plainness = record {
+  plain = λ ds. record { within = are_built ds; top = false };
+  style = λ selectors at inner. record { within = false; top = list_all is_unled selectors && (none_waits (list_parts selectors) && is_one_run inner) };
+  group = λ condition at inner. record { within = false; top = is_plain_condition condition && list_all (λ (item : Plain). item.top) inner };
+  passed = λ rule. record { within = false; top = true };
+  other = λ at. record { within = false; top = true };
+}
+
+-- an item of a sheet that is read
+abbrev pub is_plain_item : Item → Bool
+is_plain_item x = (folded plainness x).top
+
+-- an item of the block of a style rule that is read
+abbrev pub is_plain_run : Item → Bool
+is_plain_run x = (folded plainness x).within

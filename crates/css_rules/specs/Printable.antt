@@ -9,14 +9,21 @@ use Rattle.sheet_types.specs.declared.sheet.Item.{Item}
 use Rattle.selector_types.specs.declared.selector.Selector.{Selector}
 use Rattle.selector_types.specs.ReadableSelectors.{is_readable_list, is_spelled, is_writable_list}
 use Rattle.selector_types.specs.Spelling.{list_spelling}
-use Rattle.css_rules.specs.Components.{is_bang, is_semicolon, is_custom, is_gap}
+use Rattle.media_spelling.specs.declared.condition.Query.{Query}
+use Rattle.media_tree.specs.ReadableQueries.{are_readable_queries}
+use Rattle.media_tree.specs.ReadValues.{ValuesStand}
+use Rattle.media_tree.specs.SupportsAgain.{is_readable_supports}
+use Rattle.css_rules.specs.declared.refusal.Sought.TheVariants.{RevertLayerOrUrl}
+use Rattle.css_rules.specs.AtRules.{fits_prelude}
+use Rattle.css_rules.specs.Components.{is_bang, is_braces, is_semicolon, is_custom, is_gap}
 use Rattle.css_rules.specs.Declarations.{property_name, may_be_value}
 use Rattle.media_spelling.specs.SupportsAgain.{has_no_function}
 use Rattle.sheet_types.specs.declared.sheet.GroupCondition.{GroupCondition}
 use Rattle.sheet_types.specs.declared.sheet.GroupCondition.TheVariants.{Media, Supports}
 use Rattle.sheet_types.specs.Leaves.{Leaf, OfDeclaration, OfList, OfCondition, OfPassed, IsTop, all_leaves}
-use Rattle.css_rules.specs.Refusals.{has_waiting}
+use Rattle.css_rules.specs.Refusals.{has_sought, has_waiting}
 use Rattle.css_rules.specs.Sheets.{is_unbuilt}
+use Rattle.sheet_types.specs.declared.sheet.Passed.{Passed}
 use Rattle.sheet_types.specs.declared.sheet.Sheet.{Sheet}
 
 -- does neither white space nor a comment stand in front?
@@ -41,12 +48,36 @@ pub record IsPrintableList (list : List Selector) : Type 0 where
   pub readable : is_readable_list false list ≡ true
   pub built : has_waiting (list_spelling list) ≡ false
 
--- A declaration or a selector list that reads as it again. Conditions and rules that are passed on are not read yet, so none of them does.
+-- a media query list whose spelling reads as it again: it has one, and each value in it stands as one
+pub record AreReadQueries (queries : List Query) : Type 0 where
+  pub readable : are_readable_queries queries ≡ true
+  pub values : ValuesStand queries
+
+-- a condition whose spelling reads as it again
+abbrev pub IsPrintableCondition : GroupCondition → Type 0
+IsPrintableCondition (Media queries) = AreReadQueries queries
+IsPrintableCondition (Supports condition) = is_readable_supports condition ≡ true
+
+-- components that may stand in a rule that is passed on: no later stage rewrites a token of them, and their tokens spell their kinds
+pub record ArePassedOn (cs : List Component) : Type 0 where
+  pub built : has_sought RevertLayerOrUrl cs ≡ false
+  pub formed : all_formed cs ≡ true
+  pub spelled : list_all is_spelled (words_all cs) ≡ true
+
+-- a rule that is passed on and reads as it again: its prelude fits its kind, and no block or `;` ends it
+pub record IsPrintablePassed (rule : Passed) : Type 0 where
+  pub fits : fits_prelude rule.kind rule.prelude ≡ true
+  pub whole : list_any is_braces rule.prelude ≡ false
+  pub undivided : list_any is_semicolon rule.prelude ≡ false
+  pub prelude : ArePassedOn rule.prelude
+  pub block : ArePassedOn rule.block
+
+-- what items are made of, where it reads as it again
 abbrev pub IsPrintableLeaf : Leaf → Type 0
 IsPrintableLeaf (OfDeclaration d) = IsPrintableDeclaration d
 IsPrintableLeaf (OfList list) = IsPrintableList list
-IsPrintableLeaf (OfCondition condition) = ⊥
-IsPrintableLeaf (OfPassed rule) = ⊥
+IsPrintableLeaf (OfCondition condition) = IsPrintableCondition condition
+IsPrintableLeaf (OfPassed rule) = IsPrintablePassed rule
 
 -- items that read as they again: each may stand at the top of a sheet, and all that is printed of them reads as it again
 pub record ArePrintable (items : List Item) : Type 0 where

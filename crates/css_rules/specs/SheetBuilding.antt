@@ -5,7 +5,8 @@ use Rattle.css_rules.specs.declared.sheet_builder.SheetBuilder.{SheetBuilder}
 use Rattle.css_rules.specs.Cuts.{Cut, cuts}
 use Rattle.css_rules.specs.ReadAll.{read_all}
 use Rattle.css_rules.specs.Refusals.{first_refusal}
-use Rattle.css_rules.specs.Sheets.{ends_rule, rule_of, rule_refusals}
+use Rattle.css_rules.specs.Sheets.{rule_of, rule_refusals}
+use Rattle.css_rules.specs.RuleEnds.{ends_rule}
 use Rattle.css_rules.specs.Private.Starts.{start_of}
 
 -- It has read these rules: it keeps the first of their refusals, and their items where there is none.

@@ -1,4 +1,4 @@
--- Sheets of plain style rules (CSS Syntax 3, sections 5.4 and 9), and the places of what they are refused for.
+-- Sheets (CSS Syntax 3, sections 5.4 and 9; Conditional Rules 3, section 2), and the places of what they are refused for.
 use Rattle.std.specs.Prelude.{ℕ, List, [], ◌∷◌, ◌++◌, ◌≡◌, IsTrue, Bool, false, ◌&&◌, ◌||◌, not, Option, Some, None, Result, Ok, Err, if◌then◌else◌, flat_map, map}
 use Rattle.std.specs.List.{AllByRecursion, Contains}
 use Rattle.std.specs.Option.{option_map}
@@ -8,35 +8,21 @@ use Rattle.selector_types.specs.declared.selector.Selector.{Selector}
 use Rattle.selector_tree.specs.Signs.{list_in, list_reading, mark_of}
 use Rattle.sheet_types.specs.declared.sheet.Declaration.{Declaration}
 use Rattle.sheet_types.specs.Runs.{run_of}
-use Rattle.sheet_types.specs.declared.sheet.Item.{Item, Style}
+use Rattle.sheet_types.specs.declared.sheet.Item.{Item, Style, Group, Passed, Other}
 use Rattle.sheet_types.specs.declared.sheet.Sheet.{Sheet}
 use Rattle.css_rules.specs.declared.reader.RuleFault.{RuleFault}
 use Rattle.css_rules.specs.declared.reader.RuleFault.TheVariants as faults
-use Rattle.css_rules.specs.Components.{place_of, inside, is_at_keyword, is_semicolon, is_braces}
-use Rattle.css_rules.specs.Cuts.{Cut, cuts, trimmed, trimmed_start}
-use Rattle.css_rules.specs.Declarations.{declaration_of, begins_custom}
+use Rattle.css_rules.specs.Components.{place_of, inside}
+use Rattle.css_rules.specs.Cuts.{Cut, cuts, trimmed}
+use Rattle.css_rules.specs.Declarations.{declaration_of}
+use Rattle.css_rules.specs.declared.at_rule.AtRule.{AtRule}
+use Rattle.css_rules.specs.declared.at_rule.AtRule.TheVariants as rules
+use Rattle.css_rules.specs.declared.refusal.Sought.TheVariants.{RevertLayerOrUrl}
+use Rattle.css_rules.specs.AtRules.{at_rule_of}
+use Rattle.css_rules.specs.NestedRules.{Making, in_block, made}
 use Rattle.css_rules.specs.ReadAll.{read_all}
+use Rattle.css_rules.specs.RuleEnds.{begins_at_rule, block_of, ends_in_braces, ends_item}
 use Rattle.css_rules.specs.Refusals.{syntax, unbuilt, leads, has_sought, has_waiting, sought_for, sought_in, waiting_in, is_unbuilt_property}
-
--- Where rules and items end.
-
--- does it begin with an at-keyword?
-abbrev pub begins_at_rule : List Component → Bool
-begins_at_rule [] = false
-begins_at_rule (c ∷ cs) = is_at_keyword c
-
--- At the top a `{}` block ends a rule, and `;` an at-rule alone.
-abbrev pub ends_rule : List Component → Component → Bool
-ends_rule before c = is_braces c || (is_semicolon c && begins_at_rule (trimmed_start before))
-
--- In a block `;` ends an item, and so does a `{}` block, but for that of a custom property.
-abbrev pub ends_item : List Component → Component → Bool
-ends_item before c = is_semicolon c || (is_braces c && not (begins_custom (trimmed_start before)))
-
--- is the mark a `{}` block?
-abbrev pub ends_in_braces : Option Component → Bool
-ends_in_braces None = false
-ends_in_braces (Some mark) = is_braces mark
 
 -- Blocks.
 
@@ -93,13 +79,34 @@ abbrev pub style_of : List Component → Option Component → Option (List Item)
 style_of prelude None = leftover (trimmed prelude)
 style_of prelude (Some block) = style_with (first_place (trimmed prelude) (place_of block)) (prelude_of prelude) (declarations_of (inside block))
 
--- A rule. An at-rule has no reading yet.
-abbrev pub rule_of : Cut → Option (List Item)
-rule_of cut = if begins_at_rule (trimmed cut.front) then None else style_of cut.front cut.mark
+-- The items of an at-rule at this place, of this block, in which rules are read as these items. A group has them. A rule that is passed on has no reading yet with a Url or `revert-layer` in it, and what waits for a later stage has none.
+abbrev pub at_rule_items : ℕ → AtRule → List Component → Option (List Item) → Option (List Item)
+at_rule_items at (rules.Group condition) block inner = option_map (λ items. Group (record { condition = condition; items = items; at = at }) ∷ []) inner
+at_rule_items at (rules.PassedOn kind prelude) block inner =
+    if has_sought RevertLayerOrUrl prelude || has_sought RevertLayerOrUrl block then None
+    else Some (Passed (record { kind = kind; prelude = prelude; block = block; at = at }) ∷ [])
+at_rule_items at rules.Waiting block inner = None
+at_rule_items at rules.Unknown block inner = Some (Other at ∷ [])
+at_rule_items at rules.Unread block inner = None
 
--- the rules one after another, where each has a reading
+-- the items of a rule, where the rules in its block are read as these items
+abbrev pub rule_with : Cut → Option (List Item) → Option (List Item)
+rule_with cut inner =
+    if begins_at_rule (trimmed cut.front)
+    then at_rule_items (first_place (trimmed cut.front) 0) (at_rule_of (trimmed cut.front) (ends_in_braces cut.mark)) (block_of cut.mark) inner
+    else style_of cut.front cut.mark
+
+-- rules one after another, where each has a reading
+abbrev pub reading : Making (Option (List Item))
+reading = record { of_rule = rule_with; of_all = read_all (λ items. items) }
+
+-- the items of rules
 abbrev pub rules_of : List Component → Option (List Item)
-rules_of cs = read_all rule_of (cuts ends_rule cs)
+rules_of cs = made reading cs
+
+-- the items of a rule
+abbrev pub rule_of : Cut → Option (List Item)
+rule_of cut = rule_with cut (in_block reading rules_of cut.mark)
 
 -- the sheet that the components spell, if they spell one
 abbrev pub sheet_of : List Component → Option Sheet
@@ -149,13 +156,32 @@ abbrev pub style_refusals : List Component → Option Component → List Refusal
 style_refusals prelude None = leftover_refusals (trimmed prelude)
 style_refusals prelude (Some block) = prelude_refusals prelude (place_of block) ++ block_refusals (inside block)
 
--- What a rule is refused for. An at-rule waits for a later stage at its at-keyword, and nothing in it is looked at.
-abbrev pub rule_refusals : Cut → List Refusal
-rule_refusals cut = if begins_at_rule (trimmed cut.front) then unbuilt (first_place (trimmed cut.front) 0) ∷ [] else style_refusals cut.front cut.mark
+-- What an at-rule at this place is refused for, of this block, in which the rules are refused for these: a group for what stands in it, a rule that is passed on for a Url or `revert-layer` in it, any other where it waits for a later stage or cannot be read.
+abbrev pub at_rule_refusals : ℕ → AtRule → List Component → List Refusal → List Refusal
+at_rule_refusals at (rules.Group condition) block inner = inner
+at_rule_refusals at (rules.PassedOn kind prelude) block inner = sought_in RevertLayerOrUrl prelude ++ sought_in RevertLayerOrUrl block
+at_rule_refusals at rules.Waiting block inner = unbuilt at ∷ []
+at_rule_refusals at rules.Unknown block inner = []
+at_rule_refusals at rules.Unread block inner = syntax at ∷ []
+
+-- what a rule is refused for, where the rules in its block are refused for these
+abbrev pub refusals_with : Cut → List Refusal → List Refusal
+refusals_with cut inner =
+    if begins_at_rule (trimmed cut.front)
+    then at_rule_refusals (first_place (trimmed cut.front) 0) (at_rule_of (trimmed cut.front) (ends_in_braces cut.mark)) (block_of cut.mark) inner
+    else style_refusals cut.front cut.mark
+
+-- rules one after another, with all that they are refused for
+abbrev pub refusing : Making (List Refusal)
+refusing = record { of_rule = refusals_with; of_all = flat_map (λ refusals. refusals) }
 
 -- what a sheet is refused for, rule by rule
 abbrev pub sheet_refusals : List Component → List Refusal
-sheet_refusals cs = flat_map rule_refusals (cuts ends_rule cs)
+sheet_refusals cs = made refusing cs
+
+-- what a rule is refused for
+abbrev pub rule_refusals : Cut → List Refusal
+rule_refusals cut = refusals_with cut (in_block refusing sheet_refusals cut.mark)
 
 -- a fault names this refusal, unless memory ran out
 abbrev pub IsNamed : RuleFault → Option Refusal → Type 0

@@ -6,7 +6,7 @@ ghost use Rattle.css_rules.specs.Components.{is_semicolon};
 ghost use Rattle.css_rules.specs.Cuts.{trimmed, trimmed_start, trimmed_end};
 ghost use Rattle.css_rules.specs.Private.Marks.{EndsAt, IsFirstMark, is_mark};
 ghost use Rattle.css_rules.specs.Private.Spans.{IsWithin, at_span};
-ghost use Rattle.css_rules.specs.Sheets.{ends_item, ends_rule};
+ghost use Rattle.css_rules.specs.RuleEnds.{ends_item, ends_rule};
 
 use crate::declaration::begins_custom;
 use crate::parts::{begins_at_rule, head_of, is_braces, is_gap, is_token};

@@ -15,7 +15,8 @@ use css_tokens::{Component, Kind, OutOfMemory, Text, Token, name_of};
 use sheet_types::Declaration;
 use std::alloc::Global;
 
-fn is_ident(component: &Component) -> bool
+/// Whether it is an identifier.
+pub fn is_ident(component: &Component) -> bool
     ensures { result ≡ is_ident component.now }
 {
     is_token(component) && matches!(head_of(component).kind, Kind::Ident)

@@ -6,6 +6,7 @@ ghost use Rattle.css_rules.specs.Components.{is_custom, is_keyword};
 ghost use Rattle.css_rules.specs.Refusals.{first_refusal, syntax, unbuilt, is_ampersand, is_is, is_revert_layer, is_unbuilt_property, is_url};
 ghost use Rattle.css_tokens.specs.declared.kind.Kind.TheVariants.{Delim, Function, Ident, Url};
 
+pub mod at_rules;
 pub mod cuts;
 pub mod sheets;
 

@@ -1,6 +1,8 @@
-//! Style sheets: selectors, declarations and rules, read from component values (CSS Syntax 3, section 5; Selectors 4).
+//! Style sheets: selectors, declarations, rules and at-rules, read from component values (CSS Syntax 3, section 5; Selectors 4;
+//! Conditional Rules 3).
 #![tactic(auto)]
 
+mod at_rule;
 mod cuts;
 mod declaration;
 pub mod examples;
@@ -11,19 +13,22 @@ mod plain_law;
 mod reader;
 mod reading_law;
 mod refusal;
+mod rules;
 mod sheet_builder;
 mod sheet_laws;
 mod standing_law;
 mod waiting;
 mod within_law;
 
+pub use at_rule::{AtKeyword, AtRule};
 pub use cuts::trimmed;
 pub use first_law::{the_first_fault_is_named, the_first_refusal_is_named};
 pub use places_law::places_do_not_matter;
 pub use plain_law::sheets_are_plain;
-pub use reader::{RuleFault, read_sheet};
-pub use reading_law::sheets_have_readings_or_refusals;
+pub use reader::RuleFault;
+pub use reading_law::{sheets_are_read_rule_by_rule, sheets_have_readings_or_refusals};
 pub use refusal::{Cause, Refusal, Sought};
+pub use rules::read_sheet;
 pub use sheet_builder::SheetBuilder;
 pub use sheet_laws::{sheets_are_printable, sheets_are_read_again};
 pub use sheet_types::{

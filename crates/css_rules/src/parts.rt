@@ -4,7 +4,7 @@ ghost use Rattle.std.specs.Prelude.{◌≡◌, IsTrue, IfOk};
 ghost use Rattle.std.specs.List.{list_any};
 ghost use Rattle.std.specs.Str.{str_to_ascii_lowercase};
 ghost use Rattle.css_rules.specs.Components.{head, is_at_keyword, is_braces, is_comma, is_gap, is_keyword, is_single, name_of, place_of};
-ghost use Rattle.css_rules.specs.Sheets.{begins_at_rule};
+ghost use Rattle.css_rules.specs.RuleEnds.{begins_at_rule};
 ghost use Rattle.css_tokens.specs.Names.{has_name};
 
 use css_tokens::{Component, Kind, OutOfMemory, Token, is_gap as is_gap_kind, name_of};

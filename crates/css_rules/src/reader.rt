@@ -1,10 +1,11 @@
-//! Sheets of plain style rules, read from component values.
+//! Style rules, read from component values.
 
 ghost use Rattle.std.specs.Prelude.{◌≡◌, ◌≤◌, ◌+◌, ◌<◌, ◌^◌, ◌||◌, ◌++◌, ◌∷◌, [], ℕ, IfOk, IfErr, IfSome, OnOk, OnErr, IsNone, Option, Some, None, drop, length, slice_get, slice_range};
 ghost use Rattle.std.specs.Option.{option_copied, option_map, option_to_list};
 ghost use Rattle.css_rules.specs.Components.{inside, head};
 ghost use Rattle.css_rules.specs.Refusals.{first_refusal, holds, is_unbuilt_property, sought_for};
-ghost use Rattle.css_rules.specs.Sheets.{begins_at_rule, block_refusals, declaration_refusals, declarations_of, ends_in_braces, ends_item, first_place, is_rule, item_of, item_refusals, mark_place, plain_item, plain_refusals, prelude_of, prelude_refusals, rule_of, rule_refusals, rules_of, sheet_of, sheet_refusals, style_of, style_refusals, IsNamed, IsLeast};
+ghost use Rattle.css_rules.specs.Sheets.{block_refusals, declaration_refusals, declarations_of, first_place, is_rule, item_of, item_refusals, mark_place, plain_item, plain_refusals, prelude_of, prelude_refusals, rule_of, rule_refusals, rules_of, sheet_of, sheet_refusals, style_of, style_refusals, IsNamed, IsLeast};
+ghost use Rattle.css_rules.specs.RuleEnds.{begins_at_rule, ends_in_braces, ends_item};
 ghost use Rattle.sheet_types.specs.Runs.{run_of};
 ghost use Rattle.css_rules.specs.Private.Faults.{fault_of};
 ghost use Rattle.css_rules.specs.Private.Marks.{EndsCut};
@@ -208,7 +209,7 @@ fn count_of_items(block: &[Component]) -> usize {
 }
 
 /// Takes a component out of the list that holds it. Its first token is left in its place.
-fn take_one<'a>(component: &mut Component<'a>) -> Component<'a>
+pub fn take_one<'a>(component: &mut Component<'a>) -> Component<'a>
     ensures { result ≡ component.old }
 {
     let first = Component::Single(head_of(component).copy());
@@ -387,7 +388,7 @@ fn read_prelude<'a>(
 }
 
 /// What stands in a block.
-fn into_inside<'a>(alloc: Global, component: Component<'a>) -> List<Component<'a>>
+pub fn into_inside<'a>(alloc: Global, component: Component<'a>) -> List<Component<'a>>
     ensures { result ≡ inside component.entry }
 {
     match component {
@@ -404,7 +405,7 @@ fn into_inside<'a>(alloc: Global, component: Component<'a>) -> List<Component<'a
 }
 
 /// The place of the first component, or another place where there is none.
-fn first_place(components: &[Component], otherwise: u32) -> u32
+pub fn first_place(components: &[Component], otherwise: u32) -> u32
     ensures { result ≡ first_place components.now otherwise }
 {
     match components {
@@ -414,7 +415,7 @@ fn first_place(components: &[Component], otherwise: u32) -> u32
 }
 
 /// A style rule.
-fn read_style<'a>(
+pub fn read_style<'a>(
     alloc: Global,
     prelude: &[Component<'a>],
     block: Component<'a>,
@@ -444,54 +445,6 @@ fn read_style<'a>(
     })
 }
 
-/// What stands at the top before a mark and the mark, or what stands behind the last one.
-pub fn read_rule<'a>(
-    alloc: Global,
-    front: &[Component<'a>],
-    mark: Option<Component<'a>>,
-) -> Result<Judged<Option<Item<'a>>>, OutOfMemory>
-    ensures refusal { IfOk result (λ read. read.refusal ≡ first_refusal (rule_refusals (record { front = front.now; mark = mark.entry }))) }
-    ensures value { IfOk result (λ read. read.refusal ≡ None → rule_of (record { front = front.now; mark = mark.entry }) ≡ Some (option_to_list read.value)) }
-{
-    let rule = trimmed(front);
-    if begins_at_rule(rule) {
-        return Ok(Judged {
-            value: None,
-            refusal: Some(Refusal::unbuilt(first_place(rule, 0))),
-        });
-    }
-    match (rule, mark) {
-        (_, Some(block)) => read_style(alloc, front, block),
-        ([first, ..], None) => Ok(Judged {
-            value: None,
-            refusal: Some(Refusal::syntax(place_of(first))),
-        }),
-        ([], None) => Ok(Judged {
-            value: None,
-            refusal: None,
-        }),
-    }
-}
-
-/// Reads a sheet of plain style rules (CSS Syntax 3, section 9). The end is the place behind the last component.
-pub fn read_sheet<'a>(
-    alloc: Global,
-    text: &[Component<'a>],
-    _end: u32,
-) -> Result<Sheet<'a>, RuleFault>
-    ensures found { IfOk result (λ sheet. sheet_of text.now ≡ Some sheet) }
-    ensures faultless { IfOk result (λ _. sheet_refusals text.now ≡ []) }
-    ensures fault { IfErr result (λ fault. IsNamed fault (first_refusal (sheet_refusals text.now))) }
-    ensures least { IfErr result (λ fault. IsLeast fault (sheet_refusals text.now)) }
-{
-    the_first_refusal_is_named();
-    let read = read_rules(alloc, text)?;
-    match read.refusal {
-        None => Ok(Sheet { items: read.value }),
-        Some(refusal) => Err(fault_of(refusal)),
-    }
-}
-
 /// The fault that names a refusal.
 pub fn fault_of(refusal: Refusal) -> RuleFault
     ensures { result ≡ fault_of refusal }
@@ -500,43 +453,4 @@ pub fn fault_of(refusal: Refusal) -> RuleFault
         Cause::Syntax => RuleFault::Syntax(refusal.at),
         Cause::Unbuilt => RuleFault::Unbuilt(refusal.at),
     }
-}
-
-/// The same component again, where there is one.
-fn copy_of<'a>(
-    alloc: Global,
-    mark: Option<&Component<'a>>,
-) -> Result<Option<Component<'a>>, OutOfMemory>
-    ensures { IfOk result (λ copy. copy ≡ option_copied mark.entry) }
-{
-    match mark {
-        Some(mark) => Ok(Some(mark.copy(alloc)?)),
-        None => Ok(None),
-    }
-}
-
-/// The rules of a sheet.
-fn read_rules<'a>(
-    alloc: Global,
-    text: &[Component<'a>],
-) -> Result<Judged<List<Item<'a>>>, OutOfMemory>
-    ensures refusal { IfOk result (λ read. read.refusal ≡ first_refusal (sheet_refusals text.now)) }
-    ensures value { IfOk result (λ read. read.refusal ≡ None → rules_of text.now ≡ Some read.value) }
-{
-    let mut items = List::new(alloc);
-    let mut refusal = None;
-    let mut from = 0;
-    while from <= text.len() {
-        let end = end_of_cut(text, from, rule_mark(&text[from..]));
-        let mark = copy_of(alloc, mark_at(text, end))?;
-        let rule = read_rule(alloc, &text[from..end], mark)?;
-        refusal = sooner_of(refusal, rule.refusal);
-        let Judged { value, refusal: _ } = rule;
-        push_some(&mut items, value)?;
-        from = end + 1;
-    }
-    Ok(Judged {
-        value: items,
-        refusal,
-    })
 }

@@ -5,7 +5,7 @@ ghost use Rattle.std.specs.Prelude.{◌≡◌, List, [], ◌∷◌, Some, None};
 ghost use Rattle.css_rules.specs.Components.{is_semicolon};
 ghost use Rattle.css_rules.specs.Cuts.{cuts, cuts_at, trimmed};
 ghost use Rattle.css_rules.specs.SelectorFaults.{list_faults};
-ghost use Rattle.css_rules.specs.Sheets.{ends_item, ends_rule};
+ghost use Rattle.css_rules.specs.RuleEnds.{ends_item, ends_rule};
 ghost use Rattle.css_rules.specs.Samples.{at_keyword, braces, dot, semicolon};
 ghost use Rattle.selector_types.specs.Samples.{source, laid, ident, space, comment, comma, colon};
 

@@ -59,7 +59,7 @@ pub fn no_sheets()
     ensures colon_first { sheet_of (source (ident "p" ∷ braces (colon ∷ ident "x" ∷ []) ∷ [])) ≡ None }
     ensures name_alone { sheet_of (source (ident "p" ∷ braces (ident "a" ∷ []) ∷ [])) ≡ None }
     ensures no_selector { sheet_of (source (ident "p" ∷ braces [] ∷ braces [] ∷ [])) ≡ None }
-    ensures at_rule { sheet_of (source (at_keyword "@a" ∷ semicolon ∷ ident "p" ∷ braces [] ∷ [])) ≡ None }
+    ensures at_rule { sheet_of (source (at_keyword "@import" ∷ semicolon ∷ ident "p" ∷ braces [] ∷ [])) ≡ None }
     ensures is { sheet_of (source (ident "a" ∷ colon ∷ call "is(" (ident "b" ∷ []) ∷ braces [] ∷ [])) ≡ None }
     ensures combinator_first { sheet_of (source (delim ">" ∷ ident "a" ∷ braces [] ∷ [])) ≡ None }
     ensures nesting { sheet_of (source (delim "&" ∷ braces [] ∷ [])) ≡ None }
@@ -103,10 +103,10 @@ pub fn sheets_are_whole()
 /// What a sheet is refused for outside its rules, and that a rule of what is built is not refused.
 pub fn rules_are_refused()
     ensures none { sheet_refusals (source (dot ∷ ident "a" ∷ braces (ident "color" ∷ colon ∷ ident "red" ∷ []) ∷ [])) ≡ [] }
-    ensures at_rule { sheet_refusals (source (at_keyword "@media" ∷ space ∷ ident "print" ∷ braces [] ∷ [])) ≡ unbuilt 0 ∷ [] }
+    ensures at_rule { sheet_refusals (source (at_keyword "@layer" ∷ space ∷ ident "a" ∷ braces [] ∷ [])) ≡ unbuilt 0 ∷ [] }
     ensures at_rule_without_a_block { sheet_refusals (source (at_keyword "@import" ∷ space ∷ string "'x'" ∷ semicolon ∷ ident "p" ∷ braces [] ∷ [])) ≡ unbuilt 0 ∷ [] }
     ensures no_block { sheet_refusals (source (ident "p" ∷ braces [] ∷ space ∷ ident "q" ∷ [])) ≡ syntax 4 ∷ [] }
-    ensures at_rule_before_a_rule { sheet_refusals (source (at_keyword "@media" ∷ space ∷ ident "print" ∷ semicolon ∷ dot ∷ dot ∷ ident "a" ∷ braces [] ∷ [])) ≡ unbuilt 0 ∷ syntax 13 ∷ [] }
+    ensures at_rule_before_a_rule { sheet_refusals (source (at_keyword "@layer" ∷ space ∷ ident "print" ∷ semicolon ∷ dot ∷ dot ∷ ident "a" ∷ braces [] ∷ [])) ≡ unbuilt 0 ∷ syntax 13 ∷ [] }
     ensures comment_behind { sheet_refusals (source (ident "p" ∷ braces [] ∷ space ∷ comment ∷ [])) ≡ [] }
 {}
 
@@ -117,6 +117,13 @@ pub fn preludes_are_refused()
     ensures function_alone { sheet_refusals (source (call "a(" (ident "b" ∷ colon ∷ ident "c" ∷ []) ∷ braces [] ∷ [])) ≡ syntax 0 ∷ [] }
     ensures other_function { sheet_refusals (source (colon ∷ call "has(" (ident "a" ∷ []) ∷ braces [] ∷ [])) ≡ [] }
     ensures combinator_first { sheet_refusals (source (delim ">" ∷ ident "a" ∷ braces [] ∷ [])) ≡ syntax 0 ∷ [] }
+    ensures first_of_two_that_are_no_selectors { sheet_refusals (source (ident "a" ∷ comma ∷ comma ∷ dot ∷ braces [] ∷ [])) ≡ syntax 2 ∷ [] }
+    ensures nothing_before_the_block { sheet_refusals (source (ident "a" ∷ comma ∷ braces [] ∷ [])) ≡ syntax 2 ∷ [] }
+    ensures no_selector { sheet_refusals (source (braces [] ∷ [])) ≡ syntax 0 ∷ [] }
+{}
+
+/// What it is refused for there where a selector waits for a later stage: `&` and `:is(..)` at any depth.
+pub fn waiting_preludes_are_refused()
     ensures is { sheet_refusals (source (ident "a" ∷ colon ∷ call "IS(" (ident "b" ∷ []) ∷ braces [] ∷ [])) ≡ unbuilt 1 ∷ [] }
     ensures is_behind_a_comment { sheet_refusals (source (ident "a" ∷ colon ∷ comment ∷ call "is(" (ident "b" ∷ []) ∷ braces [] ∷ [])) ≡ unbuilt 1 ∷ [] }
     ensures is_behind_a_space { sheet_refusals (source (ident "a" ∷ colon ∷ space ∷ call "is(" (ident "b" ∷ []) ∷ braces [] ∷ [])) ≡ syntax 0 ∷ [] }
@@ -126,9 +133,6 @@ pub fn preludes_are_refused()
     ensures nesting_behind_what_is_no_selector { sheet_refusals (source (ident "a" ∷ comma ∷ comma ∷ delim "&" ∷ braces [] ∷ [])) ≡ unbuilt 3 ∷ syntax 2 ∷ [] }
     ensures nesting { sheet_refusals (source (delim "&" ∷ ident "p" ∷ braces [] ∷ [])) ≡ unbuilt 0 ∷ syntax 0 ∷ [] }
     ensures nesting_is_named { first_refusal (sheet_refusals (source (delim "&" ∷ ident "p" ∷ braces [] ∷ []))) ≡ Some (unbuilt 0) }
-    ensures first_of_two_that_are_no_selectors { sheet_refusals (source (ident "a" ∷ comma ∷ comma ∷ dot ∷ braces [] ∷ [])) ≡ syntax 2 ∷ [] }
-    ensures nothing_before_the_block { sheet_refusals (source (ident "a" ∷ comma ∷ braces [] ∷ [])) ≡ syntax 2 ∷ [] }
-    ensures no_selector { sheet_refusals (source (braces [] ∷ [])) ≡ syntax 0 ∷ [] }
 {}
 
 /// What a sheet is refused for in the block of a rule.

@@ -1,5 +1,5 @@
 use Rattle.std.proofs.Common.{◌∙◌, ap, sym}
-use Rattle.css_rules.specs.Sheets.{begins_at_rule}
+use Rattle.css_rules.specs.RuleEnds.{begins_at_rule}
 use Rattle.css_rules.proofs.CutMarks.{rule-at, rule-plain}
 use Rattle.css_rules.proofs.cuts.rule_mark.Goals as goal
 

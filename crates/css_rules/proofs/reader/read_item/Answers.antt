@@ -2,7 +2,8 @@ use Rattle.std.proofs.Common.{◌≡◌, ◌∙◌, sym, ap, cond, false, ◌||�
 use Rattle.std.specs.Option.{option_copied, option_to_list}
 use Rattle.css_rules.specs.Cuts.{trimmed}
 use Rattle.css_rules.specs.Private.Spans.{declared_in}
-use Rattle.css_rules.specs.Sheets.{begins_at_rule, ends_in_braces, plain_item}
+use Rattle.css_rules.specs.Sheets.{plain_item}
+use Rattle.css_rules.specs.RuleEnds.{begins_at_rule, ends_in_braces}
 use Rattle.css_rules.proofs.SpanLemmas.{found-option}
 use Rattle.css_rules.proofs.reader.read_item.Goals as goal
 

@@ -2,7 +2,8 @@ use Rattle.std.proofs.Common.{◌∙◌, sym, ap, arith, slice_range, slice_get,
 use Rattle.std.specs.Option.{option_to_list}
 use Rattle.css_rules.specs.Cuts.{Cut}
 use Rattle.css_rules.specs.Private.Spans.{declared_in}
-use Rattle.css_rules.specs.Sheets.{ends_item, item_of, item_refusals}
+use Rattle.css_rules.specs.Sheets.{item_of, item_refusals}
+use Rattle.css_rules.specs.RuleEnds.{ends_item}
 use Rattle.css_rules.proofs.CutLemmas.{cuts_left, cuts_left-step}
 use Rattle.css_rules.proofs.SpanLemmas.{cuts_left-same, past-option, within-option}
 use Rattle.css_rules.proofs.RefusalLemmas.{sooner_of-none_left, sooner_of-none_right}

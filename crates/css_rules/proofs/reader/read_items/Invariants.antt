@@ -1,7 +1,8 @@
 use Rattle.std.proofs.Common.{◌≡◌, ◌≤◌, ◌+◌, ◌-◌, ◌++◌, length, flat_map, None, option_map}
 use Rattle.css_rules.specs.ReadAll.{read_all}
 use Rattle.css_rules.specs.Refusals.{first_refusal, sooner_of}
-use Rattle.css_rules.specs.Sheets.{ends_item, item_of, declarations_of, item_refusals, block_refusals}
+use Rattle.css_rules.specs.Sheets.{item_of, declarations_of, item_refusals, block_refusals}
+use Rattle.css_rules.specs.RuleEnds.{ends_item}
 use Rattle.css_rules.proofs.CutLemmas.{cuts_left}
 use Rattle.css_rules.proofs.reader.read_items.Given as goal
 

@@ -4,7 +4,8 @@ use Rattle.std.specs.Option.{option_to_list}
 use Rattle.css_rules.specs.Private.Marks.{EndsAt, is_mark}
 use Rattle.css_rules.specs.Private.Spans.{declared_in}
 use Rattle.css_rules.specs.Refusals.{first_refusal}
-use Rattle.css_rules.specs.Sheets.{ends_item, item_of, item_refusals}
+use Rattle.css_rules.specs.Sheets.{item_of, item_refusals}
+use Rattle.css_rules.specs.RuleEnds.{ends_item}
 use Rattle.css_rules.proofs.CutLemmas.{first-cut}
 use Rattle.css_rules.proofs.SpanLemmas.{below-option, found-option}
 use Rattle.css_rules.proofs.reader.read_next.Goals as goal
