@@ -1,12 +1,14 @@
 //! Laws about the definitions of this crate, each the contract of a function that does nothing.
 
 ghost use Rattle.std.specs.Prelude.{◌≡◌, ◌++◌, ◌&&◌, [], ℕ, List, Bool, true, IsTrue, Some, flat_map, map};
-ghost use Rattle.std.specs.List.{AllByRecursion};
+ghost use Rattle.std.specs.List.{AllByRecursion, list_all};
 ghost use Rattle.sheet_types.specs.Contexts.{LayerPath, Context, outside, under_condition, under_list};
-ghost use Rattle.sheet_types.specs.Statements.{Statement, says, say_all};
+ghost use Rattle.sheet_types.specs.Statements.{Statement, says, say_all, statements_of};
 ghost use Rattle.sheet_types.specs.BareItems.{bare_sheet};
-ghost use Rattle.css_rules.specs.Printable.{all_whole};
-ghost use Rattle.sheet_types.specs.SheetTexts.{sheet_text};
+ghost use Rattle.css_rules.specs.PlainRules.{is_plain_item};
+ghost use Rattle.css_rules.specs.Printable.{ArePrintable, all_whole};
+ghost use Rattle.sheet_types.specs.SheetTexts.{items_text};
+ghost use Rattle.sheet_types.specs.Standing.{AllStand};
 ghost use Rattle.selector_types.specs.declared.selector.Combinator.TheVariants.{Descendant, Child, Next, Later};
 ghost use Rattle.sheet_types.specs.declared.sheet.GroupCondition.{GroupCondition};
 ghost use Rattle.sheet_types.specs.declared.sheet.Item.{Item};
@@ -24,14 +26,15 @@ ghost use Rattle.cascade_spec.specs.Truth.{all_hold, group_holds};
 ghost use Rattle.cascade_spec.specs.Cascade.{Question, Shown, IsWinner, winning};
 ghost use Rattle.cascade_spec.specs.Contents.{IsKept, SameWinners};
 ghost use Rattle.cascade_spec.specs.Showing.{showing, joined};
-ghost use Rattle.cascade_spec.specs.Readings.{HasSheet, IsReadAgain, KeepsWinners};
+ghost use Rattle.cascade_spec.specs.Readings.{HasSheet, KeepsWinners, ReadsAsItems};
 
-/// The text that the sheet of a text prints as reads as that sheet, item by item, without the rules that declare nothing and
-/// places aside, and so keeps its winners, where all is kept of its selectors: a sheet with a function of which nothing is
-/// kept, or a flag of an attribute selector, has no text that says the same. A text reads as one sheet, places aside.
-pub fn sheets_keep_winners()
-    ensures again { (source : List ℕ) (sheet : Sheet) → HasSheet source sheet → IsTrue (all_whole sheet) → IsReadAgain source (sheet_text sheet) }
-    ensures kept { (source : List ℕ) (sheet : Sheet) → HasSheet source sheet → IsTrue (all_whole sheet) → KeepsWinners source (sheet_text sheet) }
+/// The sheet of a text is printable where all is kept of its selectors and conditions: a function of which nothing is kept, or a
+/// flag of an attribute selector, has no text that says the same. Each value of it stands in the text, and each item is as it is
+/// read: no rule in a style rule, and nothing that waits for a later stage. A text reads as one sheet, places aside.
+pub fn sheets_of_texts()
+    ensures printable { (source : List ℕ) (sheet : Sheet) → HasSheet source sheet → IsTrue (all_whole sheet) → ArePrintable sheet.items }
+    ensures stand { (source : List ℕ) (sheet : Sheet) → HasSheet source sheet → AllStand sheet.items }
+    ensures plain { (source : List ℕ) (sheet : Sheet) → HasSheet source sheet → IsTrue (list_all is_plain_item sheet.items) }
     ensures one { (text : List ℕ) (a b : Sheet) → HasSheet text a → HasSheet text b → bare_sheet a ≡ bare_sheet b }
 {
     css_tokens::one_reading();
@@ -40,9 +43,20 @@ pub fn sheets_keep_winners()
     css_tokens::words_are_clean();
     css_tokens::values_again();
     css_rules::sheets_are_printable();
+    css_rules::sheets_are_plain();
     css_rules::values_stand();
-    css_rules::sheets_are_read_again();
     css_rules::places_do_not_matter();
+    media_tree::texts_give_spelled_words();
+}
+
+/// The text that printable items print as reads as them, without the rules and groups that declare nothing and places aside.
+/// Where items have the winners of the sheet of a text, so has each text that reads as them.
+pub fn printed_items_are_read()
+    ensures read { (items : List Item) → ArePrintable items → AllStand items → ReadsAsItems (items_text items) items }
+    ensures kept { (source text : List ℕ) (sheet : Sheet) (items : List Item) → HasSheet source sheet → ReadsAsItems text items → SameWinners (statements_of sheet) (say_all items outside) → KeepsWinners source text }
+{
+    sheets_of_texts();
+    css_rules::sheets_are_read_again();
     css_rules::bare_items_say();
 }
 
