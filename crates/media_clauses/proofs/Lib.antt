@@ -12,3 +12,6 @@ pub mod Computing
 pub mod CountLemmas
 pub mod ReadableLemmas
 pub mod ReadingLemmas
+pub mod FactsOfLists
+pub mod ReadableLists
+pub mod StandingLists

@@ -3,10 +3,11 @@
 ghost use Rattle.std.specs.Prelude.{◌≡◌, List, IsTrue, Some};
 ghost use Rattle.css_tokens.specs.declared.component.Component.{Component};
 ghost use Rattle.media_tree.specs.Queries.{queries_reading};
-ghost use Rattle.std.specs.List.{list_all};
+ghost use Rattle.std.specs.List.{AllByRecursion, list_all};
 ghost use Rattle.cascade_spec.specs.declared.environment.Environment.{Environment};
 ghost use Rattle.cascade_spec.specs.Truth.{queries_hold};
 ghost use Rattle.media_spelling.specs.declared.condition.Query.{Query};
+ghost use Rattle.media_tree.specs.ReadValues.{ValuesStand};
 ghost use Rattle.media_tree.specs.ReadableQueries.{are_readable_queries};
 ghost use Rattle.media_clauses.specs.Clauses.{clauses};
 ghost use Rattle.media_clauses.specs.Holding.{clauses_hold};
@@ -46,4 +47,11 @@ pub fn clauses_print_by_literals()
 pub fn ranges_that_are_read_are_known()
     ensures read { (cs : List Component) (qs : List Query) → queries_reading cs ≡ Some qs → IsTrue (have_known_ranges qs) }
     ensures readable { (qs : List Query) → IsTrue (are_readable_queries qs) → IsTrue (have_known_ranges qs) }
+{}
+
+/// Each list of a lowered form has a spelling that is read as it, where the media list has one, and each value in it stands as
+/// one, where each value in the media list does (Media Queries 4, section 3).
+pub fn lowered_lists_are_readable()
+    ensures readable { (qs : List Query) → IsTrue (are_readable_queries qs) → IsTrue (list_all are_readable_queries (lowered qs)) }
+    ensures values { (qs : List Query) → ValuesStand qs → AllByRecursion ValuesStand (lowered qs) }
 {}
