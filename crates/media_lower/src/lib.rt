@@ -5,7 +5,8 @@ pub mod examples;
 mod laws;
 mod lowering;
 mod pass;
+mod settled;
 
-pub use laws::media_lists_become_old;
+pub use laws::{lowered_items_are_printable, media_lists_become_old, plain_items_are_taken};
 pub use media_clauses::{Clause, Fact, Literal, clauses};
 pub use pass::MediaPass;

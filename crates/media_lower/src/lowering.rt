@@ -3,6 +3,7 @@
 ghost use Rattle.std.specs.Prelude.{◌≡◌, [], ◌∷◌, ◌++◌, flat_map, IfOk};
 ghost use Rattle.media_lower.specs.MediaItems.{in_group, in_groups, lowered_group, lowered_item};
 
+use crate::settled::is_settled;
 use css_tokens::{List, OutOfMemory};
 use media_clauses::lower_queries;
 use media_spelling::Query;
@@ -126,6 +127,9 @@ fn lowered_item<'a>(
 ) -> Result<List<Item<'a>>, OutOfMemory>
     ensures { IfOk result (λ made. made ≡ before.entry ++ lowered_item item.entry) }
 {
+    if is_settled(&item) {
+        return with(before, item);
+    }
     match item {
         Item::Style(style) => {
             let items = lowered_items(alloc, style.items, List::new(alloc))?;

@@ -1,4 +1,5 @@
 use crate::lowering::lowered_items;
+use crate::settled::are_settled;
 use cascade_spec::Pass;
 use css_tokens::{List, OutOfMemory};
 use sheet_types::Sheet;
@@ -31,6 +32,9 @@ impl Pass for MediaPass {
     ghost keeps = { λ pass items takes q premise. keeps-media q items takes };
 
     fn run<'a>(&self, alloc: Global, sheet: Sheet<'a>) -> Result<Sheet<'a>, OutOfMemory> {
+        if are_settled(sheet.items.as_slice()) {
+            return Ok(sheet);
+        }
         let items = lowered_items(alloc, sheet.items, List::new(alloc))?;
         Ok(Sheet { items })
     }
