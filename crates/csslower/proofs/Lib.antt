@@ -1,10 +1,14 @@
 mod Parts
 mod Says
 mod Loads
+mod LoweredTexts
 mod OneFinding
 mod FirstAnswers
 mod Alike
 mod Usages
+mod ErasedTwice
+mod TargetBare
+mod TargetItems
 mod TargetSheets
 mod TextFaults
 mod CheckFaults
