@@ -1,0 +1,6 @@
+//! Sheets: each public call on small and on large inputs. A body that answers want of memory meets every contract, and is refused
+//! by a test alone.
+#![tactic(auto)]
+
+#[cfg(test)]
+mod sheets;
