@@ -3,3 +3,4 @@ pub mod SaidItems
 pub mod ItemShapes
 pub mod Computing
 pub mod PassedTexts
+pub mod PlacesConditions

@@ -1,7 +1,10 @@
 -- Items as they are printed: with each place at 0, and without the rules and groups that declare nothing.
 use Rattle.std.specs.Prelude.{ℕ, List, [], ◌∷◌, map, flat_map, ◌≡◌}
+use Rattle.std.specs.Option.{option_map}
 use Rattle.std.proofs.Common.{◌∙◌, ap}
 use Rattle.std.proofs.lemmas.List.Folds.{flat_map-map}
+use Rattle.media_spelling.specs.Places.{bare_supports}
+use Rattle.media_spelling.specs.SupportsAgain.{supports_again}
 use Rattle.selector_types.specs.Erased.{erased}
 use Rattle.selector_types.specs.declared.selector.Selector.{Selector}
 use Rattle.sheet_types.specs.declared.sheet.Declaration.{Declaration}
@@ -9,6 +12,7 @@ use Rattle.sheet_types.specs.declared.sheet.Group as group
 use Rattle.sheet_types.specs.declared.sheet.GroupCondition.{GroupCondition}
 use Rattle.sheet_types.specs.declared.sheet.Item.{Item}
 use Rattle.sheet_types.specs.declared.sheet.Item as item
+use Rattle.sheet_types.specs.declared.sheet.Import.{Import}
 use Rattle.sheet_types.specs.declared.sheet.Passed.{Passed}
 use Rattle.sheet_types.specs.declared.sheet.Sheet.{Sheet}
 use Rattle.sheet_types.specs.declared.sheet.Style as style
@@ -45,9 +49,17 @@ bare_item = folded baring
 abbrev pub bare_items : List Item → List Item
 bare_items items = map bare_item items
 
--- the items of a sheet so
-abbrev pub bare_sheet : Sheet → List Item
-bare_sheet sheet = bare_items sheet.items
+-- the import at the place 0, with its condition as it prints
+abbrev pub bare_import : Import → Import
+bare_import i = record { target = i.target; supports = option_map (λ condition. bare_supports (supports_again condition)) i.supports; media = i.media; at = 0 }
+
+-- the sheet of these items, with no import
+abbrev pub importless : List Item → Sheet
+importless items = record { imports = []; items = items }
+
+-- the imports and the items of a sheet so
+abbrev pub bare_sheet : Sheet → Sheet
+bare_sheet sheet = record { imports = map bare_import sheet.imports; items = bare_items sheet.items }
 
 -- Rules and groups that declare nothing.
 

@@ -1,15 +1,18 @@
 -- How a sheet prints (CSSOM, sections 6.4 and 6.7; Conditional Rules 3, section 2; this project's own choice of white space).
-use Rattle.std.specs.Prelude.{ℕ, List, [], ◌∷◌, ◌++◌, ◌≡◌, map, flat_map, Bool, codes, if◌then◌else◌}
+use Rattle.std.specs.Prelude.{ℕ, List, [], ◌∷◌, ◌++◌, ◌≡◌, map, flat_map, Bool, codes, Option, Some, None, if◌then◌else◌}
 use Rattle.std.proofs.Common.{◌∙◌, ap}
 use Rattle.std.proofs.lemmas.List.Folds.{flat_map-map}
 use Rattle.css_tokens.specs.declared.component.Component.{Component}
 use Rattle.css_tokens.specs.NameText.{name_text}
+use Rattle.css_tokens.specs.StringText.{string_text}
 use Rattle.css_tokens.specs.Values.{value_text}
 use Rattle.sheet_types.specs.declared.sheet.Declaration.{Declaration}
 use Rattle.media_spelling.specs.Spelling.{queries_text, supports_text}
+use Rattle.media_spelling.specs.declared.supports.Supports as condition
 use Rattle.sheet_types.specs.declared.sheet.Group as group
 use Rattle.sheet_types.specs.declared.sheet.GroupCondition.{GroupCondition}
 use Rattle.sheet_types.specs.declared.sheet.GroupCondition.TheVariants.{Media, Supports}
+use Rattle.sheet_types.specs.declared.sheet.Import.{Import}
 use Rattle.sheet_types.specs.declared.sheet.Item.{Item}
 use Rattle.sheet_types.specs.declared.sheet.Item as item
 use Rattle.sheet_types.specs.declared.sheet.Passed.{Passed}
@@ -111,9 +114,18 @@ printed_item = folded printing
 abbrev pub items_text : List Item → List ℕ
 items_text items = flat_map (λ item. (printed_item item).among) items
 
--- the items of a sheet, one after another
+-- the condition of an import, where it has one
+abbrev pub import_supports_text : Option condition.Supports → List ℕ
+import_supports_text None = []
+import_supports_text (Some condition) = codes " supports(" ++ (supports_text condition ++ codes ")")
+
+-- the text of an import: its target as a string, then its conditions, each behind a space, and a line feed
+abbrev pub import_text : Import → List ℕ
+import_text i = codes "@import " ++ (string_text i.target ++ (import_supports_text i.supports ++ (behind_keyword (queries_text i.media) ++ (codes ";" ++ 10 ∷ []))))
+
+-- the imports and the items of a sheet, one after another
 abbrev pub sheet_text : Sheet → List ℕ
-sheet_text sheet = items_text sheet.items
+sheet_text sheet = flat_map import_text sheet.imports ++ items_text sheet.items
 
 -- Declarations print so.
 pub printed_item-Plain : (ds : List Declaration) → printed_item (item.Plain ds) ≡ record { alone = declarations_text ds; among = ended_declarations ds }

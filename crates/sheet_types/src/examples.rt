@@ -1,17 +1,17 @@
 //! Worked examples of the definitions of this crate, each the contract of a function that does nothing.
 #![tactic(auto, using(crate::proofs::Computing::computing))]
 
-ghost use Rattle.std.specs.Prelude.{◌≡◌, [], ◌∷◌, codes};
+ghost use Rattle.std.specs.Prelude.{◌≡◌, [], ◌∷◌, None, Some, codes};
 ghost use Rattle.media_spelling.specs.Samples.{bare, declared, ident as word, media, only_if};
 ghost use Rattle.media_spelling.specs.declared.condition.Prefix.TheVariants as prefixes;
 ghost use Rattle.selector_types.specs.Samples.{colon, comment, ident, source, space};
 ghost use Rattle.sheet_types.specs.declared.sheet.GroupCondition.TheVariants.{Media, Supports};
 ghost use Rattle.sheet_types.specs.declared.sheet.Item.{Style, Plain, Passed, Other};
 ghost use Rattle.sheet_types.specs.declared.sheet.PassedKind.TheVariants.{FontFace, Page};
-ghost use Rattle.sheet_types.specs.BareItems.{filled_items};
+ghost use Rattle.sheet_types.specs.BareItems.{bare_import, filled_items};
 ghost use Rattle.sheet_types.specs.Contexts.{outside, under_condition, under_list};
 ghost use Rattle.sheet_types.specs.Samples.{type_at, plain, rule, empty_rule, group, passed};
-ghost use Rattle.sheet_types.specs.SheetTexts.{items_text};
+ghost use Rattle.sheet_types.specs.SheetTexts.{import_text, items_text, sheet_text};
 ghost use Rattle.sheet_types.specs.Statements.{Declares, Passes, bare_declaration, say_all};
 
 /// What is left of items without the rules and groups that declare nothing.
@@ -42,4 +42,13 @@ pub fn at_rules_print()
     ensures font_face { items_text (Passed (passed FontFace [] (source (ident "a" ∷ colon ∷ ident "b" ∷ []))) ∷ []) ≡ codes "@font-face{a:b}\n" }
     ensures page { items_text (Passed (passed Page (source (space ∷ colon ∷ ident "first" ∷ space ∷ [])) []) ∷ []) ≡ codes "@page :first{}\n" }
     ensures other { items_text (Other 4 ∷ []) ≡ [] }
+{}
+
+/// How imports print, and what is left of them without places.
+pub fn imports_print()
+    ensures bare { import_text (record { target = codes "b.css"; supports = None; media = []; at = 4 }) ≡ codes "@import \"b.css\";\n" }
+    ensures media { import_text (record { target = codes "b\"c"; supports = None; media = media prefixes.Plain "print" ∷ []; at = 4 }) ≡ codes "@import \"b\\\"c\" print;\n" }
+    ensures both { import_text (record { target = []; supports = Some (declared "a" 5 (word "b" ∷ [])); media = only_if (bare "color") ∷ []; at = 4 }) ≡ codes "@import \"\" supports((a:b)) (color);\n" }
+    ensures placeless { bare_import (record { target = codes "b"; supports = Some (declared "a" 5 (word "b" ∷ [])); media = []; at = 4 }) ≡ record { target = codes "b"; supports = Some (declared "a" 0 (word "b" ∷ [])); media = []; at = 0 } }
+    ensures first { sheet_text (record { imports = record { target = codes "b"; supports = None; media = []; at = 4 } ∷ []; items = rule (type_at 0 "a" ∷ []) (plain "b" "c" ∷ []) ∷ [] }) ≡ codes "@import \"b\";\na{b:c}\n" }
 {}

@@ -7,5 +7,5 @@ mod sheet;
 
 pub use laws::{bare_items_say, passed_rules_say_their_texts};
 pub use sheet::{
-    Declaration, Group, GroupCondition, Item, LayerName, Passed, PassedKind, Sheet, Style,
+    Declaration, Group, GroupCondition, Import, Item, LayerName, Passed, PassedKind, Sheet, Style,
 };

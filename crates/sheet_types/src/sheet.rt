@@ -93,8 +93,22 @@ pub struct Passed<'a> {
     pub at: u32,
 }
 
-/// A style sheet.
+/// An import of another sheet (CSS Cascading 5, section 2).
+#[derive(Debug, Drop)]
+pub struct Import<'a> {
+    /// The address of that sheet, its escapes decoded.
+    pub target: Text<'a>,
+    /// The condition of its `supports(..)`, where it has one.
+    pub supports: Option<Supports<'a>>,
+    /// Its media query list. It is empty where none is written.
+    pub media: List<Query<'a>>,
+    /// How many bytes of the source stand before it.
+    pub at: u32,
+}
+
+/// A style sheet: its imports, and what stands behind them.
 #[derive(Debug, Drop)]
 pub struct Sheet<'a> {
+    pub imports: List<Import<'a>>,
     pub items: List<Item<'a>>,
 }
