@@ -20,7 +20,7 @@ use Rattle.media_tree.specs.ComponentInduction.{Each, by_components}
 use Rattle.media_tree.specs.Conditions.{and_row, condition_of, or_row, solid, within}
 use Rattle.media_tree.specs.Marks.{mark_of, trimmed, trimmed_start}
 use Rattle.media_spelling.specs.Places.{bare, bare_steps, bare_supports, placeless}
-use Rattle.media_tree.specs.SupportsReading.{declaration_from, declaration_of, declared, declared_by, declared_from, inside_of, is_barred, is_barred_mark, is_braces, is_braces_mark, is_colon_mark, is_custom, layer_name, makes, may_be_value, name_of, opened_sign, property_name, sign_of, supports_reading}
+use Rattle.media_tree.specs.SupportsReading.{declaration_from, declaration_of, declared, declared_by, declared_from, inside_of, is_barred, is_barred_mark, is_braces, is_braces_mark, is_colon_mark, is_custom, layer_name, makes, may_be_value, name_of, opened_sign, property_name, sign_of, supports_inside, supports_reading}
 use Rattle.media_tree.proofs.QueryPlaces.{layer-bare, mark-bare, start-bare, trimmed-bare}
 use Rattle.media_tree.proofs.SignEquations.{supports-Single, supports-Block}
 use Rattle.media_tree.proofs.TreePlaces.{bare-Single, bare-Block, bare_block, every}
@@ -183,3 +183,7 @@ sign-bare c =
 -- The same condition is read without places.
 pub reading-bare : (cs : List Component) → option_map bare_supports (supports_reading (map bare cs)) ≡ option_map bare_supports (supports_reading cs)
 reading-bare cs = read-same cs (every HasSign sign-bare cs)
+
+-- The same of what stands in parentheses.
+pub inside-bare : (cs : List Component) → option_map bare_supports (supports_inside (map bare cs)) ≡ option_map bare_supports (supports_inside cs)
+inside-bare cs = inside-same cs (every HasSign sign-bare cs)

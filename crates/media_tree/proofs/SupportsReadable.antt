@@ -31,7 +31,7 @@ use Rattle.media_tree.specs.Conditions.{condition_of, kind_sign, solid, within}
 use Rattle.media_tree.specs.Marks.{is_gap, is_gap_mark, layer_mark, lowered, mark_of, token_mark, trimmed, trimmed_end, trimmed_start}
 use Rattle.media_spelling.specs.SupportsAgain.{functionless, has_no_function}
 use Rattle.media_tree.specs.SupportsAgain.{is_readable_declaration, is_readable_supports, is_utf8_value, readable}
-use Rattle.media_tree.specs.SupportsReading.{declaration_from, declaration_of, declared, declared_by, declared_from, inside_of, is_barred, is_barred_mark, is_braces, is_braces_mark, is_colon_mark, is_custom, is_own_value, layer_name, makes, may_be_value, name_of, opened_sign, property_name, sign_of, supports_reading, token_name}
+use Rattle.media_tree.specs.SupportsReading.{declaration_from, declaration_of, declared, declared_by, declared_from, inside_of, is_barred, is_barred_mark, is_braces, is_braces_mark, is_colon_mark, is_custom, is_own_value, layer_name, makes, may_be_value, name_of, opened_sign, property_name, sign_of, supports_inside, supports_reading, token_name}
 use Rattle.media_tree.specs.SpelledWords.{is_spelled}
 use Rattle.media_tree.proofs.LowerNames.{lower-name, lower-twice}
 use Rattle.media_tree.proofs.PartsOfTexts.{Good, all-formed, all-good, all-utf8, each-start, each-trimmed, inside-good, token-good}
@@ -357,3 +357,10 @@ module _ (printing : Printing) where
   -- What is read is readable, where no function stands in it.
   pub supports-readable : (cs : List Component) (s : Supports) → all_formed cs ≡ true → list_all is_spelled (words_all cs) ≡ true → supports_reading cs ≡ Some s → has_no_function s ≡ true → is_readable_supports s ≡ true
   supports-readable cs s f w e = subst (OfSome IsFine) e (reading-fine cs (signs-kept cs (each-kept cs) (all-good cs f w)))
+
+  -- What is read in parentheses is so too.
+  pub inside-readable : (cs : List Component) (s : Supports) → all_formed cs ≡ true → list_all is_spelled (words_all cs) ≡ true → supports_inside cs ≡ Some s → has_no_function s ≡ true → is_readable_supports s ≡ true
+  inside-readable cs s f w e =
+      let good = all-good cs f w in
+      let read = reading-fine cs (signs-kept cs (each-kept cs) good) in
+      subst (OfSome IsFine) e (some-or IsFine (condition_of makes (solid (map sign_of cs))) (declaration_of cs) read (declaration-fine cs good))

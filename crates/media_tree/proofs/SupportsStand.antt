@@ -24,7 +24,7 @@ use Rattle.media_tree.specs.ComponentInduction.{Each, by_components}
 use Rattle.media_tree.specs.Conditions.{condition_of, kind_sign, solid, within}
 use Rattle.media_tree.specs.Marks.{is_gap, is_gap_mark, layer_mark, lowered, mark_of, token_mark, trimmed, trimmed_end, trimmed_start}
 use Rattle.media_tree.specs.SpelledWords.{AreRead, is_spelled}
-use Rattle.media_tree.specs.SupportsReading.{declaration_from, declaration_of, declared, declared_by, declared_from, inside_of, is_colon_mark, is_custom, makes, may_be_value, name_of, opened_sign, property_name, sign_of, supports_reading}
+use Rattle.media_tree.specs.SupportsReading.{declaration_from, declaration_of, declared, declared_by, declared_from, inside_of, is_colon_mark, is_custom, makes, may_be_value, name_of, opened_sign, property_name, sign_of, supports_inside, supports_reading}
 use Rattle.media_spelling.specs.SupportsValues.{DeclaredValuesStand, ValueStands, gathering, supports_values}
 use Rattle.media_tree.proofs.ListsHold.{each-append}
 use Rattle.media_tree.proofs.PartsOfTexts.{words-block, words-cons, words_of}
@@ -247,3 +247,11 @@ module _ (l : StandLaws) where
   -- Each value in what is read stands before a stop.
   pub supports-stand : (cs : List Component) (s : Supports) → all_formed cs ≡ true → list_all is_spelled (words_all cs) ≡ true → AreRead cs → supports_reading cs ≡ Some s → DeclaredValuesStand s
   supports-stand cs s f w read e = subst (OfSome DeclaredValuesStand) e (reading-stands cs (signs-kept cs (each-kept cs) (all-stand l.splits cs f w read)))
+
+  -- Each value in what is read in a block does so too.
+  pub inside-stands : (b : block.Block) (s : Supports) → all_formed (component.Block b ∷ []) ≡ true → list_all is_spelled (words_all (component.Block b ∷ [])) ≡ true → AreRead (component.Block b ∷ []) → supports_inside b.items ≡ Some s → DeclaredValuesStand s
+  inside-stands b s f w read e =
+      let stands = (all-stand l.splits (component.Block b ∷ []) f w read).0 in
+      let signs = map sign_of b.items in
+      let condition = reading-stands b.items (signs-kept b.items (each-kept b.items) (inside-stand l.splits b stands)) in
+      subst (OfSome DeclaredValuesStand) e (some-or DeclaredValuesStand (condition_of makes (solid signs)) (declaration_of b.items) condition (declaration-stands b.items (items-stand b stands)))

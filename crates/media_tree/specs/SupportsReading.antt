@@ -129,3 +129,7 @@ sign_of = component_signs.sign_of token_sign block_sign
 -- The supports condition that component values spell, where they spell one.
 abbrev pub supports_reading : List Component → Option Supports
 supports_reading cs = condition_of makes (solid (map sign_of cs))
+
+-- The supports condition, or else the declaration, that component values spell which stand in parentheses.
+abbrev pub supports_inside : List Component → Option Supports
+supports_inside cs = inside_of cs (map sign_of cs)

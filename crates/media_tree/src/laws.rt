@@ -2,7 +2,9 @@ ghost use Rattle.css_tokens.specs.Again.{after_ident, begins_none};
 ghost use Rattle.css_tokens.specs.Characters.{white};
 ghost use Rattle.css_tokens.specs.Tokens.{Reads, ReadsTo};
 ghost use Rattle.css_tokens.specs.Trees.{all_formed, words_all};
+ghost use Rattle.css_tokens.specs.declared.component.Block as block;
 ghost use Rattle.css_tokens.specs.declared.component.Component.{Component};
+ghost use Rattle.css_tokens.specs.declared.component.Component as component;
 ghost use Rattle.media_spelling.specs.Places.{bare_supports};
 ghost use Rattle.media_tree.specs.Queries.{queries_reading};
 ghost use Rattle.std.specs.Option.{option_map};
@@ -13,11 +15,11 @@ ghost use Rattle.media_spelling.specs.SupportsValues.{DeclaredValuesStand};
 ghost use Rattle.media_tree.specs.ReadValues.{ValuesStand};
 ghost use Rattle.media_tree.specs.SpelledWords.{AreRead, is_spelled};
 ghost use Rattle.media_tree.specs.SupportsAgain.{is_readable_supports};
-ghost use Rattle.media_tree.specs.SupportsReading.{supports_reading};
+ghost use Rattle.media_tree.specs.SupportsReading.{supports_inside, supports_reading};
 ghost use Rattle.std.specs.List.{list_all};
 ghost use Rattle.media_spelling.specs.declared.supports.Supports.{Supports};
 ghost use Rattle.media_spelling.specs.declared.condition.Query.{Query};
-ghost use Rattle.std.specs.Prelude.{◌≡◌, ◌++◌, ℕ, List, IsTrue, Some};
+ghost use Rattle.std.specs.Prelude.{◌≡◌, ◌++◌, ◌∷◌, [], ℕ, List, IsTrue, Some};
 
 use css_tokens::{
     closing_brackets_stand, less_than_stays, names_spell, names_stay, numbers_part, one_pairing,
@@ -44,9 +46,10 @@ pub fn places_of_queries_are_not_read()
     one_pairing();
 }
 
-/// The same of a supports condition, places aside.
+/// The same of a supports condition, places aside, and of what stands in parentheses.
 pub fn places_of_supports_are_not_read()
-    ensures { (a b : List Component) → words_all a ≡ words_all b → IsTrue (all_formed a) → IsTrue (all_formed b) → option_map bare_supports (supports_reading a) ≡ option_map bare_supports (supports_reading b) }
+    ensures reading { (a b : List Component) → words_all a ≡ words_all b → IsTrue (all_formed a) → IsTrue (all_formed b) → option_map bare_supports (supports_reading a) ≡ option_map bare_supports (supports_reading b) }
+    ensures inside { (a b : List Component) → words_all a ≡ words_all b → IsTrue (all_formed a) → IsTrue (all_formed b) → option_map bare_supports (supports_inside a) ≡ option_map bare_supports (supports_inside b) }
 {
     one_pairing();
 }
@@ -63,18 +66,21 @@ pub fn supports_are_read_again()
 }
 
 /// What is read as a supports condition, of words that are spelled, has a spelling that is read as it, its values as they
-/// print, where no function stands in it.
+/// print, where no function stands in it. So has what is read in parentheses.
 pub fn supports_that_are_read_are_readable()
-    ensures { (cs : List Component) (s : Supports) → IsTrue (all_formed cs) → IsTrue (list_all is_spelled (words_all cs)) → supports_reading cs ≡ Some s → IsTrue (has_no_function s) → IsTrue (is_readable_supports s) }
+    ensures reading { (cs : List Component) (s : Supports) → IsTrue (all_formed cs) → IsTrue (list_all is_spelled (words_all cs)) → supports_reading cs ≡ Some s → IsTrue (has_no_function s) → IsTrue (is_readable_supports s) }
+    ensures inside { (cs : List Component) (s : Supports) → IsTrue (all_formed cs) → IsTrue (list_all is_spelled (words_all cs)) → supports_inside cs ≡ Some s → IsTrue (has_no_function s) → IsTrue (is_readable_supports s) }
 {
     names_spell();
     printed_again();
 }
 
 /// Each value of what is read as a supports condition, of words that are spelled and read one after another in some text,
-/// stands in that text before a stop (Conditional Rules 3, section 6).
+/// stands in that text before a stop (Conditional Rules 3, section 6). So does each value of what is read in a block of that
+/// text, where the bracket that closes the block is the last stop.
 pub fn supports_that_are_read_stand()
-    ensures { (cs : List Component) (s : Supports) → IsTrue (all_formed cs) → IsTrue (list_all is_spelled (words_all cs)) → AreRead cs → supports_reading cs ≡ Some s → DeclaredValuesStand s }
+    ensures reading { (cs : List Component) (s : Supports) → IsTrue (all_formed cs) → IsTrue (list_all is_spelled (words_all cs)) → AreRead cs → supports_reading cs ≡ Some s → DeclaredValuesStand s }
+    ensures inside { (b : block.Block) (s : Supports) → IsTrue (all_formed (component.Block b ∷ [])) → IsTrue (list_all is_spelled (words_all (component.Block b ∷ []))) → AreRead (component.Block b ∷ []) → supports_inside b.items ≡ Some s → DeclaredValuesStand s }
 {
     values_again();
 }

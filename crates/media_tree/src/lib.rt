@@ -24,4 +24,4 @@ pub use media_spelling::{
     queries_stand_in_a_prelude, supports_stand_in_a_prelude, write_queries, write_supports,
 };
 pub use query::read_queries;
-pub use supports_reading::read_supports;
+pub use supports_reading::{read_supports, read_supports_inside};

@@ -3,7 +3,7 @@
 ghost use Rattle.media_tree.specs.Conditions.{condition_of, solid};
 ghost use Rattle.media_tree.specs.Faults.{FaultIs};
 ghost use Rattle.media_tree.specs.Private.Readings.{finished};
-ghost use Rattle.media_tree.specs.SupportsReading.{block_sign, declaration_from, declaration_of, declared, declared_by, declared_from, is_barred, is_braces, is_custom, is_own_value, is_plain_value, makes, may_be_value, name_of, property_name, sign_of, supports_reading};
+ghost use Rattle.media_tree.specs.SupportsReading.{block_sign, declaration_from, declaration_of, declared, declared_by, declared_from, is_barred, is_braces, is_custom, is_own_value, is_plain_value, makes, may_be_value, name_of, property_name, sign_of, supports_inside, supports_reading};
 ghost use Rattle.std.specs.List.{list_any};
 ghost use Rattle.std.specs.Option.{option_or};
 ghost use Rattle.std.specs.Prelude.{◌≡◌, map, IfOk, IfErr, Some};
@@ -251,6 +251,22 @@ pub fn read_supports<'a>(
     ensures fault { IfErr result (λ e. FaultIs e (supports_reading prelude.now)) }
 {
     match condition_in(alloc, prelude)? {
+        Some(condition) => Ok(condition),
+        None => Err(MediaFault::Syntax),
+    }
+}
+
+/// Reads what stands in parentheses: a supports condition, or else one declaration (Conditional Rules 3, section 6). Component
+/// values that spell neither are refused.
+pub fn read_supports_inside<'a>(
+    alloc: Global,
+    inside: &[Component<'a>],
+) -> Result<Supports<'a>, MediaFault>
+    ensures found { IfOk result (λ s. supports_inside inside.now ≡ Some s) }
+    ensures fault { IfErr result (λ e. FaultIs e (supports_inside inside.now)) }
+{
+    let condition = condition_in(alloc, inside)?;
+    match inside_of(alloc, condition, inside)? {
         Some(condition) => Ok(condition),
         None => Err(MediaFault::Syntax),
     }
