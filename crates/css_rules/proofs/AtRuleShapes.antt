@@ -11,16 +11,18 @@ use Rattle.sheet_types.specs.declared.sheet.Item.{Item}
 use Rattle.sheet_types.specs.declared.sheet.Item as item
 use Rattle.sheet_types.specs.declared.sheet.PassedKind.{PassedKind}
 use Rattle.css_rules.specs.declared.at_rule.AtKeyword.{AtKeyword}
-use Rattle.css_rules.specs.declared.at_rule.AtKeyword.TheVariants.{Media, Supports, PassedOn, Waiting, Unknown}
+use Rattle.css_rules.specs.declared.at_rule.AtKeyword.TheVariants.{Media, Supports, PassedOn, Import, Charset, Layer, Unknown}
 use Rattle.css_rules.specs.declared.at_rule.AtRule.TheVariants as rules
 use Rattle.css_rules.specs.declared.refusal.Sought.TheVariants.{RevertLayerOrUrl}
 use Rattle.css_rules.specs.AtRules.{at_rule_of, behind_keyword, fits_prelude, grouped, keyword_in, with_block, without_block}
-use Rattle.css_rules.specs.Components.{inside, is_braces}
-use Rattle.css_rules.specs.Cuts.{Cut, trimmed}
+use Rattle.css_components.specs.Components.{inside, is_braces}
+use Rattle.css_components.specs.Trimming.{trimmed}
+use Rattle.css_rules.specs.Cuts.{Cut}
 use Rattle.css_rules.specs.NestedRules.{in_block}
 use Rattle.css_rules.specs.Refusals.{has_sought}
 use Rattle.css_rules.specs.RuleEnds.{begins_at_rule, block_of, ends_in_braces}
-use Rattle.css_rules.specs.Sheets.{at_rule_items, first_place, reading, rule_of, rules_of, style_of}
+use Rattle.css_rules.specs.Places.{first_place}
+use Rattle.css_rules.specs.Sheets.{at_rule_items, reading, rule_of, rules_of, style_of}
 use Rattle.css_rules.proofs.CutLemmas.{or-left, or-right}
 use Rattle.css_rules.proofs.RuleShapes.{IsStyled, style-shape, unless-some}
 
@@ -86,7 +88,9 @@ module _ (cut : Cut) (items : List Item) (Q : Type 0) (cases : ShapeCases cut it
   blockless Media block inner h = absurd (cc h)
   blockless Supports block inner h = absurd (cc h)
   blockless (PassedOn kind) block inner h = absurd (cc h)
-  blockless Waiting block inner h = absurd (cc h)
+  blockless Import block inner h = absurd (cc h)
+  blockless Charset block inner h = cases.other (record { at = place; is = cc h })
+  blockless Layer block inner h = absurd (cc h)
   blockless Unknown block inner h = cases.other (record { at = place; is = cc h })
 
   module _ (ends : HasBlock cut) where
@@ -117,7 +121,9 @@ module _ (cut : Cut) (items : List Item) (Q : Type 0) (cases : ShapeCases cut it
     blocked Media h = media (queries_reading (prelude_in cut)) refl h
     blocked Supports h = supports (supports_reading (prelude_in cut)) refl h
     blocked (PassedOn kind) h = passed kind (fits_prelude kind (prelude_in cut)) refl h
-    blocked Waiting h = absurd (cc h)
+    blocked Import h = absurd (cc h)
+    blocked Charset h = cases.other (record { at = place; is = cc h })
+    blocked Layer h = absurd (cc h)
     blocked Unknown h = cases.other (record { at = place; is = cc h })
 
   at_rule : begins_at_rule (trimmed cut.front) ≡ true → (o : Option Component) → cut.mark ≡ o

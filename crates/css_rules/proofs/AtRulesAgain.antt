@@ -48,13 +48,15 @@ use Rattle.css_rules.specs.declared.at_rule.AtKeyword.TheVariants as keywords
 use Rattle.css_rules.specs.declared.at_rule.AtRule.TheVariants as rules
 use Rattle.css_rules.specs.declared.refusal.Sought.TheVariants.{RevertLayerOrUrl}
 use Rattle.css_rules.specs.AtRules.{at_rule_of, behind_keyword, fits_prelude, grouped, is_one, keyword_in, keyword_named, with_block}
-use Rattle.css_rules.specs.Components.{inside, is_braces, is_gap, is_ident, is_ident_kind, is_semicolon, is_semicolon_kind, is_string, is_string_kind, layer_head, layer_is_single, name_of}
-use Rattle.css_rules.specs.Cuts.{Cut, trimmed, trimmed_end}
+use Rattle.css_components.specs.Components.{inside, is_braces, is_gap, is_ident, is_ident_kind, is_semicolon, is_semicolon_kind, is_string, is_string_kind, layer_head, layer_is_single, name_of}
+use Rattle.css_components.specs.Trimming.{trimmed, trimmed_end}
+use Rattle.css_rules.specs.Cuts.{Cut}
 use Rattle.css_rules.specs.NestedRules.{in_block}
 use Rattle.css_rules.specs.Printable.{IsPrintableCondition, IsPrintablePassed, begins_solid}
 use Rattle.css_rules.specs.Refusals.{has_sought}
 use Rattle.css_rules.specs.RuleEnds.{begins_at_rule, block_of, ends_in_braces}
-use Rattle.css_rules.specs.Sheets.{at_rule_items, first_place, reading, rule_of, rules_of, style_of}
+use Rattle.css_rules.specs.Places.{first_place}
+use Rattle.css_rules.specs.Sheets.{at_rule_items, reading, rule_of, rules_of, style_of}
 use Rattle.css_rules.proofs.BareLemmas.{bare_rule_of}
 use Rattle.css_rules.proofs.CutAgain.{trimmed_end-solid}
 use Rattle.css_rules.proofs.CutLemmas.{not-true, trimmed_start-gap, trimmed_start-other}

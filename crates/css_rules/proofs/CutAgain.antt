@@ -2,8 +2,9 @@
 use Rattle.std.proofs.Common.{◌≡◌, List, [], ◌∷◌, ◌++◌, Bool, true, false, ◌&&◌, ◌||◌, not, Some, None, refl, ◌∙◌, ap, cond}
 use Rattle.std.specs.List.{list_any, list_all}
 use Rattle.css_tokens.specs.declared.component.Component.{Component}
-use Rattle.css_rules.specs.Components.{is_gap}
-use Rattle.css_rules.specs.Cuts.{cuts_at, trimmed_end}
+use Rattle.css_components.specs.Components.{is_gap}
+use Rattle.css_components.specs.Trimming.{trimmed_end}
+use Rattle.css_rules.specs.Cuts.{cuts_at}
 use Rattle.css_rules.proofs.CutLemmas.{front-cut, goes_on, or-left, or-right, whole-cut}
 
 -- what holds no mark goes on

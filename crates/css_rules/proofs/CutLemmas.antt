@@ -9,8 +9,9 @@ use Rattle.std.proofs.lemmas.Bool.Decides.{nat_tests}
 use Rattle.std.proofs.Math.Bool.{and-true, and-false}
 use Rattle.std.specs.List.{list_all, list_any}
 use Rattle.css_tokens.specs.declared.component.Component.{Component}
-use Rattle.css_rules.specs.Components.{is_gap}
-use Rattle.css_rules.specs.Cuts.{Cut, cuts, cuts_behind, with_front, trimmed_start, trimmed_end}
+use Rattle.css_components.specs.Components.{is_gap}
+use Rattle.css_components.specs.Trimming.{trimmed_start, trimmed_end}
+use Rattle.css_rules.specs.Cuts.{Cut, cuts, cuts_behind, with_front}
 use Rattle.css_rules.specs.Private.Marks.{EndsAt, EndsCut, IsFirstMark}
 use Rattle.css_rules.proofs.BoolLemmas.{and-left, and-right, and-both}
 
@@ -102,21 +103,6 @@ trimmed_end-other [] c other = ap (λ b. cond (b && true) [] (c ∷ [])) other
 trimmed_end-other (x ∷ cs) c other =
     ap (λ b. cond b [] (x ∷ trimmed_end (cs ++ c ∷ []))) (all-gaps-other (x ∷ cs) c other)
     ∙ ap (λ rest. x ∷ rest) (trimmed_end-other cs c other)
-
--- the last of the first components
-take-last : (cs : List Component) (to : ℕ) (d : Component) → 0 < to → to ≤ length cs → take to cs ≡ take (to - 1) cs ++ get_or cs (to - 1) d ∷ []
-take-last cs to d some within =
-    let one : (to - 1) + 1 ≡ to = omega arith in
-    let inside : to - 1 < length cs = omega arith in
-    ap (λ n. take n cs) (sym one) ∙ take_more cs (to - 1) d inside
-
-pub trimmed_end-step : (cs : List Component) (to : ℕ) (d : Component) → 0 < to → to ≤ length cs → is_gap (get_or cs (to - 1) d) ≡ true → trimmed_end (take (to - 1) cs) ≡ trimmed_end (take to cs)
-trimmed_end-step cs to d some within gap = sym (ap trimmed_end (take-last cs to d some within) ∙ trimmed_end-gap (take (to - 1) cs) (get_or cs (to - 1) d) gap)
-
-pub trimmed_end-done : (cs : List Component) (to : ℕ) (d : Component) → 0 < to → to ≤ length cs → is_gap (get_or cs (to - 1) d) ≡ false → take to cs ≡ trimmed_end (take to cs)
-trimmed_end-done cs to d some within other =
-    let last = take-last cs to d some within in
-    last ∙ sym (ap trimmed_end last ∙ trimmed_end-other (take (to - 1) cs) (get_or cs (to - 1) d) other)
 
 pub marked-at : (test : Component → Bool) (cs : List Component) (to : ℕ) (d : Component) → to < length cs → test (get_or cs to d) ≡ true → MatchOption (slice_get cs to) (Unit {0}) (λ c. test c ≡ true)
 marked-at test cs to d lt marked = subst (λ o. MatchOption o (Unit {0}) (λ c. test c ≡ true)) (sym (slice_get-get_or cs to d lt)) marked

@@ -7,8 +7,8 @@ use Rattle.css_tokens.specs.declared.kind.Kind.{Kind}
 use Rattle.css_tokens.specs.declared.kind.Kind.TheVariants as kinds
 use Rattle.css_tokens.specs.Values.{is_gap as is_gap_kind}
 use Rattle.css_rules.specs.declared.cuts.Mark.TheVariants.{Braces, Semicolon, BracesOrSemicolon}
-use Rattle.css_rules.specs.Components.{head, is_single, is_gap, is_ident, is_ident_kind, is_at_keyword, is_at_kind, is_colon, is_colon_kind, is_semicolon, is_semicolon_kind, is_braces, is_custom, name_of}
-use Rattle.css_rules.specs.Cuts.{trimmed_start}
+use Rattle.css_components.specs.Components.{head, is_single, is_gap, is_ident, is_ident_kind, is_at_keyword, is_at_kind, is_colon, is_colon_kind, is_semicolon, is_semicolon_kind, is_braces, is_custom, name_of}
+use Rattle.css_components.specs.Trimming.{trimmed_start}
 use Rattle.css_rules.specs.Declarations.{after_colon, begins_custom}
 use Rattle.css_rules.specs.Private.Marks.{EndsAt, is_mark}
 use Rattle.css_rules.specs.RuleEnds.{begins_at_rule, ends_rule, ends_item}

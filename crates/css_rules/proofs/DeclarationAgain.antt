@@ -13,8 +13,9 @@ use Rattle.css_tokens.specs.ValueAgain.{value_again}
 use Rattle.std.proofs.Math.Bool.{and-false}
 use Rattle.css_tokens.specs.Values.{is_gap as is_gap_kind}
 use Rattle.sheet_types.specs.declared.sheet.Declaration.{Declaration}
-use Rattle.css_rules.specs.Components.{head, is_bang, is_braces, is_semicolon, is_gap, is_custom, is_keyword, layer_is_single, layer_head, is_ident_kind, is_semicolon_kind, name_of}
-use Rattle.css_rules.specs.Cuts.{cuts_at, trimmed, trimmed_start, trimmed_end}
+use Rattle.css_components.specs.Components.{head, is_bang, is_braces, is_semicolon, is_gap, is_custom, is_keyword, layer_is_single, layer_head, is_ident_kind, is_semicolon_kind, name_of}
+use Rattle.css_components.specs.Trimming.{trimmed, trimmed_start, trimmed_end}
+use Rattle.css_rules.specs.Cuts.{cuts_at}
 use Rattle.css_rules.specs.Declarations.{property_name, after_colon, may_be_value, is_important, value_of, declared, declared_after, declaration_of, begins_custom}
 use Rattle.css_rules.specs.Refusals.{has_sought, is_unbuilt_property, sought_for}
 use Rattle.css_rules.specs.Sheets.{built, is_unbuilt, item_of, plain_item}

@@ -6,8 +6,9 @@ use Rattle.std.specs.Str.{str_to_ascii_lowercase}
 use Rattle.std.proofs.lemmas.Bool.{cases_Bool, false≢true}
 use Rattle.std.proofs.lemmas.Bool.Decides.{nat_tests}
 use Rattle.css_tokens.specs.declared.component.Component.{Component}
-use Rattle.css_rules.specs.Components.{is_bang, is_custom}
-use Rattle.css_rules.specs.Cuts.{Cut, cuts, cuts_at, trimmed}
+use Rattle.css_components.specs.Components.{is_bang, is_custom}
+use Rattle.css_components.specs.Trimming.{trimmed}
+use Rattle.css_rules.specs.Cuts.{Cut, cuts, cuts_at}
 use Rattle.css_rules.specs.Private.Marks.{IsFirstMark}
 use Rattle.css_rules.specs.Declarations.{value_of, is_important, property_name}
 use Rattle.css_rules.proofs.CutLemmas.{first_cut, plain-cut, EndsCut-at_mark, EndsCut-at_end}

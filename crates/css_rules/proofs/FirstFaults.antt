@@ -13,7 +13,7 @@ use Rattle.css_tokens.specs.Trees.{pieces_of, pieces_all, closing, pieces_of-Sin
 use Rattle.selector_types.specs.declared.selector.Selector.{Selector}
 use Rattle.selector_tree.specs.Grammar.{Mark, Member, is_comma_sign, is_gap_sign, selector_of, empty_before, with_mark, cut_at_commas, fault_place, or_fault, member_reading, first_and, members_reading}
 use Rattle.selector_tree.specs.Signs.{mark_of, list_reading}
-use Rattle.css_rules.specs.Components.{Layer, head, layer_head, place_of}
+use Rattle.css_components.specs.Components.{Layer, head, layer_head, place_of}
 use Rattle.css_rules.specs.SelectorFaults.{fault_in, list_faults, members_of}
 use Rattle.css_rules.proofs.BoolLemmas.{and-left, and-right}
 use Rattle.css_rules.proofs.MarkPlaces.{mark-place}

@@ -8,8 +8,9 @@ use Rattle.css_tokens.specs.Names.{is_name}
 use Rattle.css_tokens.specs.Trees.{all_formed, words_all}
 use Rattle.selector_types.specs.ReadableSelectors.{is_spelled}
 use Rattle.sheet_types.specs.declared.sheet.Declaration.{Declaration}
-use Rattle.css_rules.specs.Components.{head, is_ident, is_colon, is_bang, is_braces, is_semicolon, is_custom, name_of}
-use Rattle.css_rules.specs.Cuts.{Cut, cuts, cuts_at, trimmed, trimmed_start}
+use Rattle.css_components.specs.Components.{head, is_ident, is_colon, is_bang, is_braces, is_semicolon, is_custom, name_of}
+use Rattle.css_components.specs.Trimming.{trimmed, trimmed_start}
+use Rattle.css_rules.specs.Cuts.{Cut, cuts, cuts_at}
 use Rattle.css_rules.specs.Declarations.{property_name, after_colon, may_be_value, is_important, value_of, declared, declared_after, declaration_of, begins_custom}
 use Rattle.css_rules.specs.Printable.{IsPrintableDeclaration, begins_solid}
 use Rattle.css_rules.specs.Sheets.{is_unbuilt, item_of, declarations_of}

@@ -5,7 +5,7 @@ use Rattle.std.specs.Str.{str_to_ascii_lowercase}
 use Rattle.std.proofs.lemmas.Bool.Decides.{nat_tests}
 use Rattle.css_tokens.specs.Names.{is_name}
 use Rattle.css_rules.proofs.LowerNames.{lower-name}
-use Rattle.css_rules.specs.Components.{is_custom}
+use Rattle.css_components.specs.Components.{is_custom}
 use Rattle.css_rules.specs.Declarations.{property_name}
 
 dash-lower : (b : ℕ) → nat_eq 45 (to_ascii_lowercase b) ≡ nat_eq 45 b

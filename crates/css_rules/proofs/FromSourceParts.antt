@@ -14,8 +14,9 @@ use Rattle.css_tokens.specs.declared.kind.Kind.TheVariants as kinds
 use Rattle.css_tokens.specs.Piece.{Piece, Word, word_of}
 use Rattle.css_tokens.specs.Names.{is_name, name_of_word}
 use Rattle.css_tokens.specs.Trees.{pieces_of, pieces_all, words_all, closing, component_pieces, block_pieces, component_formed, block_formed, is_formed, all_formed, opens}
-use Rattle.css_rules.specs.Components.{Layer, head, inside, layer_head, layer_items, layer_is_single, is_ident, is_ident_kind, is_gap, name_of}
-use Rattle.css_rules.specs.Cuts.{Cut, cuts_behind, with_front, trimmed, trimmed_start, trimmed_end}
+use Rattle.css_components.specs.Components.{Layer, head, inside, layer_head, layer_items, layer_is_single, is_ident, is_ident_kind, is_gap, name_of}
+use Rattle.css_components.specs.Trimming.{trimmed, trimmed_start, trimmed_end}
+use Rattle.css_rules.specs.Cuts.{Cut, cuts_behind, with_front}
 use Rattle.css_rules.specs.Printable.{begins_solid}
 use Rattle.selector_types.specs.ReadableSelectors.{is_spelled, is_named, is_clean}
 use Rattle.css_rules.proofs.CutLemmas.{not-true, cuts-unmarked, cuts-marked, trimmed_start-gap, trimmed_start-other}

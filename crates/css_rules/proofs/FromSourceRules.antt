@@ -18,7 +18,7 @@ use Rattle.sheet_types.specs.declared.sheet.Passed.{Passed}
 use Rattle.sheet_types.specs.declared.sheet.Style as style
 use Rattle.selector_tree.specs.Signs.{list_reading}
 use Rattle.selector_types.specs.Spelling.{list_spelling}
-use Rattle.css_rules.specs.Components.{inside}
+use Rattle.css_components.specs.Components.{inside}
 use Rattle.css_rules.specs.Cuts.{Cut}
 use Rattle.sheet_types.specs.Leaves.{IsTop, Leaf, OfDeclaration, all_leaves, group_leaves, leaves, rule_leaves}
 use Rattle.css_rules.specs.Printable.{is_whole, is_whole_condition, all_whole, IsPrintableCondition, IsPrintableDeclaration, IsPrintableLeaf, ArePrintable}
@@ -33,8 +33,8 @@ use Rattle.css_rules.proofs.FromSourceParts.{is_sound, all-sound, sound-formed, 
 use Rattle.css_rules.proofs.GroupLeaves.{leaves-Group, leaves-Passed, leaves-Other, top-Group, top-Passed, top-Other}
 use Rattle.sheet_types.proofs.ItemShapes.{leaves-hold, only-leaves, rule-top}
 use Rattle.css_rules.proofs.ListsRead.{list-found}
-use Rattle.css_rules.proofs.RuleShapes.{IsStyled, prelude-shape, sheet-items}
-use Rattle.css_rules.proofs.SourceRules.{AreStopped, IsReadPassed, ReadCases, items-hold}
+use Rattle.css_rules.proofs.RuleShapes.{IsStyled, prelude-shape}
+use Rattle.css_rules.proofs.SourceRules.{AreStopped, IsReadPassed, ReadCases, sheet-holds}
 use Rattle.css_rules.proofs.StandLists.{ReadingLaws}
 use Rattle.css_rules.proofs.WaitingSigns.{spelling-calm}
 
@@ -146,6 +146,6 @@ module _ (laws : SourceLaws) where
 
   pub sheet-printable : (cs : List Component) (sheet : Sheet) → sheet_of cs ≡ Some sheet → all_formed cs ≡ true → list_all is_spelled (words_all cs) ≡ true → AreRead cs → all_whole sheet ≡ true → ArePrintable sheet.items
   sheet-printable cs sheet e formed spelled read =
-      items-hold laws.reading is_spelled WholePrintable cases cs
+      sheet-holds laws.reading is_spelled WholePrintable cases cs sheet
       (record { sound = all-sound is_spelled cs formed spelled; behind = read.behind; stands = record { reads = read.reads } })
-      sheet.items (sheet-items cs sheet e)
+      e

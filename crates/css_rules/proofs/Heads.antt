@@ -11,7 +11,7 @@ use Rattle.css_tokens.specs.Piece.{Piece, Word}
 use Rattle.css_tokens.specs.Trees.{is_text, pieces_of, component_pieces, block_pieces}
 use Rattle.css_tokens.specs.Values.{is_gap as is_gap_kind}
 pub use Rattle.sheet_types.proofs.PlacesTrees.{piece_of}
-use Rattle.css_rules.specs.Components.{layer_head, layer_is_single, layer_items, head, inside, is_gap, is_ident, is_at_keyword, is_colon, is_semicolon, is_bang, is_braces, is_ident_kind, is_at_kind, is_colon_kind, is_semicolon_kind, is_delim_kind, is_comma, is_comma_kind}
+use Rattle.css_components.specs.Components.{layer_head, layer_is_single, layer_items, head, inside, is_gap, is_ident, is_at_keyword, is_colon, is_semicolon, is_bang, is_braces, is_ident_kind, is_at_kind, is_colon_kind, is_semicolon_kind, is_delim_kind, is_comma, is_comma_kind}
 
 -- the word of this kind and this text
 abbrev pub word : Kind → List ℕ → Word

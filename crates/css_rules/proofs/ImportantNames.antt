@@ -9,7 +9,7 @@ use Rattle.css_tokens.specs.declared.kind.Kind.TheVariants as kinds
 use Rattle.css_tokens.specs.Again.{is_stop}
 use Rattle.css_tokens.specs.Names.{is_name, name_of_word}
 use Rattle.css_tokens.specs.Tokens.{classes_of}
-use Rattle.css_rules.specs.Components.{is_ident_kind, is_keyword}
+use Rattle.css_components.specs.Components.{is_ident_kind, is_keyword}
 
 -- below 128 by a table
 abbrev stops_or_dash : ℕ → Bool

@@ -10,6 +10,8 @@ pub mod DeclarationLemmas
 pub mod RefusalLemmas
 pub mod NamedFaults
 pub mod ReaderLemmas
+pub mod HeadLemmas
+pub mod RestRules
 pub mod SheetBuilderLemmas
 pub mod BoolLemmas
 pub mod WaitingLemmas
@@ -64,3 +66,5 @@ pub mod CleanNames
 pub mod ImportantNames
 pub mod CleanTexts
 pub mod ConditionTexts
+pub mod PlacesHeads
+pub mod HeadsAgain

@@ -3,7 +3,7 @@ use Rattle.std.proofs.Common.{◌≡◌, sym, ◌∙◌, ap, inl, inr}
 use Rattle.css_tokens.specs.declared.component.Component.{Component}
 use Rattle.selector_tree.specs.Grammar.{Mark}
 use Rattle.selector_tree.specs.Signs.{mark_of, mark_of-Single, mark_of-Block}
-use Rattle.css_rules.specs.Components.{head, place_of}
+use Rattle.css_components.specs.Components.{head, place_of}
 use Rattle.css_rules.proofs.Heads.{head-Single, head-Block}
 use Rattle.css_rules.proofs.ValueFacts.{shape_of}
 

@@ -9,12 +9,12 @@ use Rattle.css_tokens.specs.declared.component.Component as component
 use Rattle.css_tokens.specs.declared.component.Component.TheVariants.{outs-Single}
 use Rattle.css_tokens.specs.declared.component.Block as block
 use Rattle.media_tree.specs.ComponentInduction.{by_components}
-use Rattle.css_rules.specs.Components.{inside, is_braces, layer_items}
+use Rattle.css_components.specs.Components.{inside, is_braces, layer_items}
 use Rattle.css_rules.specs.Cuts.{Cut, cuts, cuts_behind, with_front}
 use Rattle.css_rules.specs.NestedRules.{Making, in_block, made, made_to}
 use Rattle.css_rules.specs.ReadAll.{joined, read_all}
 use Rattle.css_rules.specs.RuleEnds.{ends_rule}
-use Rattle.css_rules.specs.Sheets.{reading, refusing, rule_of, rule_refusals, rules_of, sheet_refusals}
+use Rattle.css_rules.specs.Sheets.{reading, refusing, rule_of, rule_refusals, rules_of, rules_refusals}
 use Rattle.css_rules.proofs.Heads.{inside-Block}
 
 -- What stands in a block has fewer tokens than the block: its opening token and its closing one are two more.
@@ -137,5 +137,14 @@ read-mapped f (x ∷ xs) = ap (joined (f x)) (read-mapped f xs)
 pub rules-read : (cs : List Component) → rules_of cs ≡ read_all rule_of (cuts ends_rule cs)
 rules-read cs = made-rules reading cs ∙ read-mapped rule_of (cuts ends_rule cs)
 
-pub rules-refused : (cs : List Component) → sheet_refusals cs ≡ flat_map rule_refusals (cuts ends_rule cs)
+pub rules-refused : (cs : List Component) → rules_refusals cs ≡ flat_map rule_refusals (cuts ends_rule cs)
 rules-refused cs = made-rules refusing cs ∙ flat_map-map (λ refusals. refusals) rule_refusals (cuts ends_rule cs)
+
+-- what holds of all components holds in all blocks
+pub in-blocks : (P : List Component → Type 0) → ((cs : List Component) → P cs) → (rules : List Cut) → InBlocks P rules
+in-blocks P holds [] = tt
+in-blocks P holds (rule ∷ rules) = (at rule.mark, in-blocks P holds rules)
+  where
+    at : (o : Option Component) → MatchOption o (Unit {0}) (λ mark. P (inside mark))
+    at None = tt
+    at (Some mark) = holds (inside mark)

@@ -10,19 +10,24 @@ use Rattle.sheet_types.specs.declared.sheet.Item as item
 use Rattle.selector_types.specs.Erased.{erased as erased_selector}
 use Rattle.selector_tree.specs.Signs.{list_in, mark_of}
 use Rattle.sheet_types.specs.BareItems.{bared, bare_items, bare_sheet}
-use Rattle.css_rules.specs.Components.{inside, is_braces, is_semicolon}
-use Rattle.css_rules.specs.Cuts.{Cut, cuts, trimmed, trimmed_start}
+use Rattle.css_components.specs.Components.{inside, is_braces, is_semicolon}
+use Rattle.css_components.specs.Trimming.{trimmed, trimmed_start}
+use Rattle.css_rules.specs.Cuts.{Cut, cuts}
 use Rattle.css_rules.specs.ReadAll.{joined, read_all}
 use Rattle.css_rules.specs.Refusals.{has_waiting}
 use Rattle.css_rules.specs.AtRules.{at_rule_of, behind_keyword}
 use Rattle.css_rules.specs.NestedRules.{in_block}
-use Rattle.css_rules.specs.Sheets.{at_rule_items, declarations_of, first_place, prelude_of, reading, rules_of, style_with, leftover, style_of, sheet_of}
+use Rattle.css_rules.specs.Places.{first_place}
+use Rattle.css_rules.specs.Sheets.{at_rule_items, declarations_of, prelude_of, reading, rules_of, style_with, leftover, style_of, sheet_of, sheet_with}
 use Rattle.css_rules.specs.RuleEnds.{begins_at_rule, block_of, ends_in_braces, ends_rule}
 use Rattle.sheet_types.specs.Runs.{run_of}
-use Rattle.css_rules.proofs.BareLemmas.{bare-rule, bare-rules_of, bare-sheet_of, bare_rule_of}
+use Rattle.css_rules.proofs.BareLemmas.{bare-rule, bare-rules_of, bare-sheet_of, bare_import_of, bare_rule_of}
 use Rattle.css_rules.proofs.BoolLemmas.{and-right}
 use Rattle.css_rules.proofs.FromSourceParts.{IsPart, all-trimmed, formed-inside, parts-cuts}
-use Rattle.css_rules.proofs.NestedRules.{InBlocks, OfMark, by_blocks}
+use Rattle.css_rules.proofs.NestedRules.{InBlocks, OfMark, by_blocks, in-blocks}
+use Rattle.css_rules.specs.Heads.{imports_in, items_in}
+use Rattle.css_rules.proofs.HeadLemmas.{each-import, each-item}
+use Rattle.css_rules.proofs.PlacesHeads.{ImportPlaces, imports-erased, items-erased, read-imports-erased}
 use Rattle.css_rules.proofs.PlacesAtRules.{ConditionPlaces, at_rule_items-erased}
 use Rattle.sheet_types.proofs.PlacesTrees.{OnePairing, all_formed-erased, same-erased, words-erased}
 use Rattle.css_rules.proofs.WaitingLemmas.{waiting-words}
@@ -77,6 +82,7 @@ style-erased places prelude (Some block) formed =
 pub record PreludePlaces : Type 0 where
   pub lists : ListPlaces
   pub conditions : ConditionPlaces
+  pub imports : ImportPlaces
 
 -- Its rules are read as the same, places aside.
 abbrev IsSame : List Component → Type 0
@@ -127,9 +133,16 @@ block-erased places cs within formed =
 -- a sheet is read as the same tree with each place at 0
 sheet-erased : PreludePlaces → (cs : List Component) → all_formed cs ≡ true → option_map bare_sheet (sheet_of (map erased cs)) ≡ option_map bare_sheet (sheet_of cs)
 sheet-erased places cs formed =
-    bare-sheet_of (map erased cs) ∙ sym (bare-rules_of (map erased cs))
-    ∙ by_blocks IsSame (block-erased places) cs formed
-    ∙ bare-rules_of cs ∙ sym (bare-sheet_of cs)
+    let rules = cuts ends_rule cs in
+    let parts = parts-cuts is_formed is_braces ends_rule (λ before c s. ap (λ b. b || (is_semicolon c && begins_at_rule (trimmed_start before))) s) [] cs formed in
+    bare-sheet_of (map erased cs)
+    ∙ ap (λ all. sheet_with (read_all bare_import_of (imports_in all)) (read_all bare_rule_of (items_in all))) (cuts-erased ends_rule ends_rule-erased [] cs)
+    ∙ ap (λ all. sheet_with (read_all bare_import_of all) (read_all bare_rule_of (items_in (map erased_cut rules)))) (imports-erased rules)
+    ∙ ap (λ all. sheet_with (read_all bare_import_of (map erased_cut (imports_in rules))) (read_all bare_rule_of all)) (items-erased rules)
+    ∙ ap (λ o. sheet_with o (read_all bare_rule_of (map erased_cut (items_in rules)))) (read-imports-erased places.imports (imports_in rules) (each-import (IsPart is_formed is_braces) rules parts))
+    ∙ ap (sheet_with (read_all bare_import_of (imports_in rules)))
+    (rules-erased places (items_in rules) (each-item (IsPart is_formed is_braces) rules parts) (in-blocks IsSame (by_blocks IsSame (block-erased places)) (items_in rules)))
+    ∙ sym (bare-sheet_of cs)
 
 -- the same words have the same tree, or none has
 pub sheet-places : OnePairing → PreludePlaces → (a b : List Component) → words_all a ≡ words_all b → IsTrue (all_formed a) → IsTrue (all_formed b) → option_map bare_sheet (sheet_of a) ≡ option_map bare_sheet (sheet_of b)

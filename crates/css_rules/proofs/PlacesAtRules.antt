@@ -20,12 +20,12 @@ use Rattle.sheet_types.specs.declared.sheet.PassedKind.{PassedKind}
 use Rattle.sheet_types.specs.declared.sheet.PassedKind.TheVariants.{FontFace, Keyframes, WebkitKeyframes, MozKeyframes, Page, CounterStyle}
 use Rattle.sheet_types.proofs.PlacesTrees.{all_formed-erased, bare_value-erased, words-erased}
 use Rattle.css_rules.specs.declared.at_rule.AtKeyword.{AtKeyword}
-use Rattle.css_rules.specs.declared.at_rule.AtKeyword.TheVariants.{Media, Supports, PassedOn, Waiting, Unknown}
+use Rattle.css_rules.specs.declared.at_rule.AtKeyword.TheVariants.{Media, Supports, PassedOn, Import, Charset, Layer, Unknown}
 use Rattle.css_rules.specs.declared.at_rule.AtRule.{AtRule}
 use Rattle.css_rules.specs.declared.at_rule.AtRule.TheVariants as rules
 use Rattle.css_rules.specs.declared.refusal.Sought.TheVariants.{RevertLayerOrUrl}
 use Rattle.css_rules.specs.AtRules.{at_rule_of, behind_keyword, fits_prelude, grouped, is_one, keyword_in, keyword_named, with_block, without_block}
-use Rattle.css_rules.specs.Components.{inside, is_braces, is_ident, is_string, name_of}
+use Rattle.css_components.specs.Components.{inside, is_braces, is_ident, is_string, name_of}
 use Rattle.css_rules.specs.NestedRules.{in_block}
 use Rattle.css_rules.specs.Refusals.{has_sought}
 use Rattle.css_rules.specs.RuleEnds.{block_of, ends_in_braces}
@@ -36,15 +36,15 @@ use Rattle.css_rules.proofs.PlacesLayers.{braces-erased, head-erased, ident-eras
 
 -- Parts of an at-rule.
 
-keyword-erased : (cs : List Component) → keyword_in (map erased cs) ≡ keyword_in cs
+pub keyword-erased : (cs : List Component) → keyword_in (map erased cs) ≡ keyword_in cs
 keyword-erased [] = refl
 keyword-erased (c ∷ cs) = ap (λ (p : Piece). keyword_named (str_to_ascii_lowercase (name_of p))) (head-erased c)
 
-behind-erased : (cs : List Component) → behind_keyword (map erased cs) ≡ map erased (behind_keyword cs)
+pub behind-erased : (cs : List Component) → behind_keyword (map erased cs) ≡ map erased (behind_keyword cs)
 behind-erased [] = refl
 behind-erased (c ∷ cs) = trimmed-erased cs
 
-one-erased : (test : Component → Bool) → ((c : Component) → test (erased c) ≡ test c) → (cs : List Component) → is_one test (map erased cs) ≡ is_one test cs
+pub one-erased : (test : Component → Bool) → ((c : Component) → test (erased c) ≡ test c) → (cs : List Component) → is_one test (map erased cs) ≡ is_one test cs
 one-erased test same [] = refl
 one-erased test same (c ∷ []) = same c
 one-erased test same (c ∷ d ∷ cs) = refl
@@ -72,6 +72,7 @@ block-erased (Some c) = inside-erased c
 abbrev Alike : AtRule → AtRule → Type 0
 Alike (rules.Group c) (rules.Group d) = bare_condition c ≡ bare_condition d
 Alike (rules.PassedOn k p) (rules.PassedOn l q) = (k ≡ l) × (p ≡ map erased q)
+Alike rules.Import rules.Import = Unit {0}
 Alike rules.Waiting rules.Waiting = Unit {0}
 Alike rules.Unknown rules.Unknown = Unit {0}
 Alike rules.Unread rules.Unread = Unit {0}
@@ -104,14 +105,18 @@ with-alike places Media cs formed = media-alike (queries_reading (map erased cs)
 with-alike places Supports cs formed = supports-alike (supports_reading (map erased cs)) (supports_reading cs) (places.supports (map erased cs) cs (words-erased cs) (all_formed-erased cs ∙ formed) formed)
 with-alike places (PassedOn kind) cs formed =
     subst (λ b. Alike (cond b (rules.PassedOn kind (map erased cs)) rules.Unread) (with_block (PassedOn kind) cs)) (sym (fits-erased kind cs)) (passed-alike kind cs (fits_prelude kind cs))
-with-alike places Waiting cs formed = tt
+with-alike places Import cs formed = tt
+with-alike places Charset cs formed = tt
+with-alike places Layer cs formed = tt
 with-alike places Unknown cs formed = tt
 
 without-alike : (keyword : AtKeyword) → Alike (without_block keyword) (without_block keyword)
 without-alike Media = tt
 without-alike Supports = tt
 without-alike (PassedOn kind) = tt
-without-alike Waiting = tt
+without-alike Import = tt
+without-alike Charset = tt
+without-alike Layer = tt
 without-alike Unknown = tt
 
 -- the rule of these parts
@@ -173,6 +178,7 @@ items-alike at place (rules.PassedOn k p) (rules.PassedOn l r) block o q alike i
     ap (λ e. bare_read (at_rule_items at (rules.PassedOn e p) (map erased block) o)) alike.0
     ∙ ap (λ e. bare_read (at_rule_items at (rules.PassedOn l e) (map erased block) o)) alike.1
     ∙ passed-items l at place r block o q
+items-alike at place rules.Import rules.Import block o q alike inner = refl
 items-alike at place rules.Waiting rules.Waiting block o q alike inner = refl
 items-alike at place rules.Unknown rules.Unknown block o q alike inner = ap (λ (x : Item). Some (x ∷ [])) (bare_item-Other at ∙ sym (bare_item-Other place))
 items-alike at place rules.Unread rules.Unread block o q alike inner = refl

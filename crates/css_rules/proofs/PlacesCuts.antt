@@ -5,8 +5,9 @@ use Rattle.std.proofs.lemmas.List.{map-append}
 use Rattle.css_tokens.specs.declared.component.Component.{Component}
 use Rattle.css_tokens.specs.Piece.{Piece}
 use Rattle.sheet_types.specs.declared.sheet.Declaration.{Declaration}
-use Rattle.css_rules.specs.Components.{head, is_gap, is_ident, is_colon, is_semicolon, is_bang, is_braces, is_custom, is_keyword, name_of}
-use Rattle.css_rules.specs.Cuts.{Cut, cuts, cuts_at, cuts_behind, with_front, trimmed, trimmed_start, trimmed_end}
+use Rattle.css_components.specs.Components.{head, is_gap, is_ident, is_colon, is_semicolon, is_bang, is_braces, is_custom, is_keyword, name_of}
+use Rattle.css_components.specs.Trimming.{trimmed, trimmed_start, trimmed_end}
+use Rattle.css_rules.specs.Cuts.{Cut, cuts, cuts_at, cuts_behind, with_front}
 use Rattle.css_rules.specs.Declarations.{property_name, after_colon, may_be_value, is_important, value_of, declared, declared_after, declaration_of, begins_custom}
 use Rattle.css_rules.specs.declared.refusal.Sought.{Sought}
 use Rattle.css_rules.specs.ReadAll.{read_all}

@@ -6,7 +6,7 @@ use Rattle.css_tokens.specs.declared.component.Component.TheVariants.{outs-Singl
 use Rattle.css_tokens.specs.Piece.{Piece}
 use Rattle.css_tokens.specs.Trees.{is_text}
 use Rattle.css_tokens.specs.Values.{is_gap as is_gap_kind}
-use Rattle.css_rules.specs.Components.{Layer, layer_head, layer_is_single, layer_items, head, inside, is_gap, is_ident, is_string, is_at_keyword, is_colon, is_semicolon, is_bang, is_braces, is_ident_kind, is_string_kind, is_at_kind, is_colon_kind, is_semicolon_kind, is_delim_kind}
+use Rattle.css_components.specs.Components.{Layer, layer_head, layer_is_single, layer_items, head, inside, is_gap, is_ident, is_string, is_at_keyword, is_colon, is_semicolon, is_bang, is_braces, is_ident_kind, is_string_kind, is_at_kind, is_colon_kind, is_semicolon_kind, is_delim_kind}
 use Rattle.css_rules.proofs.ValueFacts.{shape_of}
 use Rattle.sheet_types.specs.Erased.{placeless, erased, erased_block, erased-Single, erased-Block}
 

@@ -13,7 +13,7 @@ use Rattle.selector_types.specs.declared.selector.Selector.{Selector}
 use Rattle.selector_tree.specs.declared.sign.Sign.{Sign}
 use Rattle.selector_tree.specs.Grammar.{Mark, Member, Step, compound_of, cut_at_commas, fault_place, first_and, first_place, link_of, members_reading, or_fault, runs_of, selector_of, selector_with, spaced, stands_before, steps_of, stripped}
 use Rattle.selector_tree.specs.Signs.{list_reading, mark_of}
-use Rattle.css_rules.specs.Components.{inside}
+use Rattle.css_components.specs.Components.{inside}
 use Rattle.css_rules.specs.Cuts.{Cut, cuts}
 use Rattle.css_rules.specs.PlainRules.{Plain, are_built, is_one_run, is_plain_condition, is_plain_item, is_unled, none_waits, plainness}
 use Rattle.css_rules.specs.Sheets.{declarations_of, is_unbuilt, item_of, sheet_of}
@@ -33,8 +33,8 @@ use Rattle.css_rules.proofs.ConditionsRead.{QueriesReadable, WordsSpelled, queri
 use Rattle.css_rules.proofs.FromSourceParts.{all-sound}
 use Rattle.css_rules.proofs.ListsRead.{list-found}
 use Rattle.css_rules.proofs.ReadAllLemmas.{read_all-holds}
-use Rattle.css_rules.proofs.RuleShapes.{IsStyled, item-shape, prelude-shape, sheet-items}
-use Rattle.css_rules.proofs.SourceRules.{AreStopped, ReadCases, items-hold}
+use Rattle.css_rules.proofs.RuleShapes.{IsStyled, item-shape, prelude-shape}
+use Rattle.css_rules.proofs.SourceRules.{AreStopped, ReadCases, sheet-holds}
 use Rattle.css_rules.proofs.StandLists.{ReadingLaws}
 use Rattle.css_rules.proofs.WaitingParts.{parts-calm}
 use Rattle.css_rules.proofs.WaitingSigns.{read-calm}
@@ -163,6 +163,6 @@ module _ (laws : PlainLaws) where
 
   pub sheet-plain : (cs : List Component) (sheet : Sheet) → sheet_of cs ≡ Some sheet → all_formed cs ≡ true → list_all is_spelled (words_all cs) ≡ true → AreRead cs → ArePlain sheet.items
   sheet-plain cs sheet e formed spelled read =
-      items-hold laws.reading is_spelled ArePlain cases cs
+      sheet-holds laws.reading is_spelled ArePlain cases cs sheet
       (record { sound = all-sound is_spelled cs formed spelled; behind = read.behind; stands = record { reads = read.reads } })
-      sheet.items (sheet-items cs sheet e)
+      e

@@ -12,7 +12,7 @@ use Rattle.css_tokens.specs.declared.component.Block as block
 use Rattle.css_tokens.specs.Piece.{Piece, Word, word_of}
 use Rattle.css_tokens.specs.Trees.{all_formed, is_formed, is_formed-Block, is_text, opens, pieces_all, pieces_of, pieces_of-Block, pieces_of-Single, words_all}
 use Rattle.selector_types.specs.Preludes.{is_prelude_kind, is_prelude_word}
-use Rattle.css_rules.specs.Components.{is_at_keyword, is_at_kind, is_braces, is_semicolon, is_semicolon_kind}
+use Rattle.css_components.specs.Components.{is_at_keyword, is_at_kind, is_braces, is_semicolon, is_semicolon_kind}
 use Rattle.css_rules.proofs.CutLemmas.{not-true}
 use Rattle.css_rules.proofs.Heads.{at-Single, at-Block, braces-Single, braces-Block, semicolon-Single, semicolon-Block}
 use Rattle.css_rules.proofs.ValueFacts.{shape_of}

@@ -7,11 +7,13 @@ use Rattle.sheet_types.specs.declared.sheet.Declaration.{Declaration}
 use Rattle.sheet_types.specs.declared.sheet.Item.{Item}
 use Rattle.sheet_types.specs.declared.sheet.Item as item
 use Rattle.sheet_types.specs.declared.sheet.Sheet.{Sheet}
-use Rattle.css_rules.specs.Components.{head, inside}
-use Rattle.css_rules.specs.Cuts.{Cut, trimmed}
+use Rattle.css_components.specs.Components.{head, inside}
+use Rattle.css_components.specs.Trimming.{trimmed}
+use Rattle.css_rules.specs.Cuts.{Cut}
 use Rattle.css_rules.specs.Declarations.{declaration_of}
 use Rattle.css_rules.specs.Refusals.{has_waiting}
-use Rattle.css_rules.specs.Sheets.{is_unbuilt, built, plain_item, is_rule, item_of, declarations_of, prelude_of, style_with, first_place, leftover, style_of, rules_of, sheet_of}
+use Rattle.css_rules.specs.Places.{first_place}
+use Rattle.css_rules.specs.Sheets.{is_unbuilt, built, plain_item, is_rule, item_of, declarations_of, prelude_of, style_with, leftover, style_of}
 use Rattle.css_rules.specs.RuleEnds.{begins_at_rule, ends_in_braces}
 use Rattle.sheet_types.specs.Runs.{run_of}
 use Rattle.css_rules.proofs.CutLemmas.{or-right}
@@ -89,11 +91,3 @@ style-shape cut items e = at cut.mark refl e
     at : (o : Option Component) → cut.mark ≡ o → style_of cut.front o ≡ Some items → (items ≡ []) ⊎ IsStyled cut items
     at None is h = inl (nothing (trimmed cut.front) h)
     at (Some block) is h = inr (with_both block (first_place (trimmed cut.front) (head block).at) is (prelude_of cut.front) (declarations_of (inside block)) refl refl h)
-
--- the rules of a sheet
-pub sheet-items : (cs : List Component) (sheet : Sheet) → sheet_of cs ≡ Some sheet → rules_of cs ≡ Some sheet.items
-sheet-items cs sheet e = at (rules_of cs) e
-  where
-    at : (o : Option (List Item)) → option_map (λ items. record { items = items }) o ≡ Some sheet → o ≡ Some sheet.items
-    at None h = absurd (cc h)
-    at (Some items) h = let same : record { items = items } ≡ sheet = cc h in ap (λ (s : Sheet). Some s.items) same

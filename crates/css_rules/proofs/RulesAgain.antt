@@ -17,18 +17,21 @@ use Rattle.css_tokens.specs.ValueAgain.{value_again}
 use Rattle.selector_types.specs.Erased.{erased}
 use Rattle.selector_types.specs.Spelling.{list_spelling}
 use Rattle.selector_tree.specs.Signs.{list_in, mark_of}
-use Rattle.sheet_types.specs.BareItems.{bared, bare_item, bare_items, bare_sheet, filled_item, filled_items}
-use Rattle.css_rules.specs.Components.{head, inside, is_braces, is_semicolon, is_at_keyword, is_gap}
-use Rattle.css_rules.specs.Cuts.{Cut, cuts, trimmed, trimmed_start, trimmed_end}
+use Rattle.sheet_types.specs.BareItems.{bared, bare_item, bare_items, bare_sheet, filled_item, filled_items, importless}
+use Rattle.css_components.specs.Components.{head, inside, is_braces, is_semicolon, is_at_keyword, is_gap}
+use Rattle.css_components.specs.Trimming.{trimmed, trimmed_start, trimmed_end}
+use Rattle.css_rules.specs.Cuts.{Cut, cuts}
 use Rattle.selector_types.specs.declared.selector.Selector.{Selector}
 use Rattle.selector_types.specs.ReadableSelectors.{is_readable_list}
 use Rattle.css_rules.specs.ReadAll.{joined, read_all}
-use Rattle.css_rules.specs.Sheets.{declarations_of, first_place, leftover, rules_of, sheet_of, style_with}
+use Rattle.css_rules.specs.Places.{first_place}
+use Rattle.css_rules.specs.Sheets.{declarations_of, leftover, rules_of, sheet_of, style_with}
 use Rattle.css_rules.specs.RuleEnds.{begins_at_rule, ends_rule}
 use Rattle.sheet_types.specs.Runs.{run_of}
 use Rattle.css_rules.specs.Printable.{ArePrintable, IsPrintableCondition, IsPrintableDeclaration, IsPrintableLeaf, IsPrintableList, IsPrintablePassed}
 use Rattle.sheet_types.specs.SheetAgain.{line_feed, braces, declarations_again, item_again, items_again}
 use Rattle.css_rules.proofs.AtRulesAgain.{GroupLaws, at_front, brace_of, condition_keyword, condition_spelling, condition-braces, condition-front, condition-semicolon, front-braces, front-semicolon, group-read, passed-read, plain-rule_of, value-braces, value-semicolon}
+use Rattle.css_rules.proofs.HeadsAgain.{filled-no_other, headless}
 use Rattle.css_rules.proofs.BareLemmas.{bare-rule, bare-rules_of, bare-sheet_of, bare_rule_of}
 use Rattle.css_rules.proofs.CutLemmas.{front-cut, goes_on, trimmed_start-gap, whole-cut}
 use Rattle.css_rules.proofs.CutAgain.{any-append, any-trimmed_end}
@@ -192,9 +195,8 @@ module _ (values : ValueLaws) (names : NameLaws) (selectors : SelectorLaws) (gro
     passed = passed-again;
   }
 
-  -- printed items are read as those items
-  pub items-read : (xs : List Item) → ArePrintable xs → option_map bare_sheet (sheet_of (items_again xs)) ≡ Some (filled_items (bare_items xs))
+  -- printed items are read as a sheet of those items, with no import
+  pub items-read : (xs : List Item) → ArePrintable xs → option_map bare_sheet (sheet_of (items_again xs)) ≡ Some (importless (filled_items (bare_items xs)))
   items-read xs p =
       bare-sheet_of (items_again xs)
-      ∙ sym (bare-rules_of (items_again xs))
-      ∙ parts-read false xs (by_tops IsPrintableLeaf IsAgain again-cases xs p.tops p.fine)
+      ∙ headless (cuts ends_rule (items_again xs)) (filled_items (bare_items xs)) (sym (bare-rules_of (items_again xs)) ∙ parts-read false xs (by_tops IsPrintableLeaf IsAgain again-cases xs p.tops p.fine)) (filled-no_other (bare_items xs))

@@ -9,18 +9,20 @@ use Rattle.sheet_types.specs.declared.sheet.GroupCondition.{GroupCondition}
 use Rattle.sheet_types.specs.declared.sheet.Item.{Item, Passed}
 use Rattle.sheet_types.specs.declared.sheet.PassedKind.{PassedKind}
 use Rattle.css_rules.specs.declared.at_rule.AtKeyword.{AtKeyword}
-use Rattle.css_rules.specs.declared.at_rule.AtKeyword.TheVariants.{Media, Supports, PassedOn, Waiting, Unknown}
+use Rattle.css_rules.specs.declared.at_rule.AtKeyword.TheVariants.{Media, Supports, PassedOn, Import, Charset, Layer, Unknown}
 use Rattle.css_rules.specs.declared.at_rule.AtRule.TheVariants as rules
 use Rattle.css_rules.specs.declared.refusal.Refusal.{Refusal}
 use Rattle.css_rules.specs.declared.refusal.Sought.TheVariants.{RevertLayerOrUrl}
 use Rattle.css_rules.specs.AtRules.{at_rule_of, keyword_in, without_block}
-use Rattle.css_rules.specs.Components.{inside, is_braces}
-use Rattle.css_rules.specs.Cuts.{Cut, cuts, trimmed}
+use Rattle.css_components.specs.Components.{inside, is_braces}
+use Rattle.css_components.specs.Trimming.{trimmed}
+use Rattle.css_rules.specs.Cuts.{Cut, cuts}
 use Rattle.css_rules.specs.NestedRules.{Making, in_block}
 use Rattle.css_rules.specs.ReadAll.{read_all}
 use Rattle.css_rules.specs.Refusals.{first_refusal, has_sought, sooner_of, sought_in}
 use Rattle.css_rules.specs.RuleEnds.{begins_at_rule, block_of, ends_in_braces, ends_rule}
-use Rattle.css_rules.specs.Sheets.{at_rule_items, at_rule_refusals, first_place, reading, refusing, rule_of, rule_refusals, rules_of, sheet_refusals, style_of, style_refusals}
+use Rattle.css_rules.specs.Places.{first_place}
+use Rattle.css_rules.specs.Sheets.{at_rule_items, at_rule_refusals, reading, refusing, rule_of, rule_refusals, rules_of, rules_refusals, style_of, style_refusals}
 use Rattle.css_rules.proofs.CutLemmas.{cuts_left}
 use Rattle.css_rules.proofs.NestedRules.{inside-shorter, rules-read, rules-refused}
 use Rattle.css_rules.proofs.ReadAllLemmas.{left-none, right-none}
@@ -51,7 +53,9 @@ no-group : (keyword : AtKeyword) (condition : GroupCondition) → without_block 
 no-group Media condition e = cc e
 no-group Supports condition e = cc e
 no-group (PassedOn kind) condition e = cc e
-no-group Waiting condition e = cc e
+no-group Import condition e = cc e
+no-group Charset condition e = cc e
+no-group Layer condition e = cc e
 no-group Unknown condition e = cc e
 
 pub group-shorter : (rule : List Component) (mark : Option Component) (condition : GroupCondition) → at_rule_of rule (ends_in_braces mark) ≡ rules.Group condition → length (pieces_all (block_of mark)) < mark_size mark
@@ -88,8 +92,8 @@ all-left : (cs : List Component) → cuts_left ends_rule cs 0 ≡ cuts ends_rule
 all-left cs = ap (λ b. cond b (cuts ends_rule cs) []) (le-leb 0 (length cs) (omega arith))
 
 -- at the start all is left
-pub start-refused : (cs text : List Component) → cs ≡ text → first_refusal (flat_map rule_refusals (cuts_left ends_rule cs 0)) ≡ first_refusal (sheet_refusals text)
-start-refused cs text same = ap (λ all. first_refusal (flat_map rule_refusals all)) (all-left cs) ∙ ap first_refusal (sym (rules-refused cs)) ∙ ap (λ xs. first_refusal (sheet_refusals xs)) same
+pub start-refused : (cs text : List Component) → cs ≡ text → first_refusal (flat_map rule_refusals (cuts_left ends_rule cs 0)) ≡ first_refusal (rules_refusals text)
+start-refused cs text same = ap (λ all. first_refusal (flat_map rule_refusals all)) (all-left cs) ∙ ap first_refusal (sym (rules-refused cs)) ∙ ap (λ xs. first_refusal (rules_refusals xs)) same
 
 pub start-read : (cs text : List Component) (items : List Item) → cs ≡ text → items ≡ [] → option_map (λ more. items ++ more) (read_all rule_of (cuts_left ends_rule cs 0)) ≡ rules_of text
 start-read cs text items same none =

@@ -8,16 +8,22 @@ use Rattle.css_tokens.specs.declared.component.Component.{Component}
 use Rattle.css_rules.specs.declared.refusal.Refusal.{Refusal}
 use Rattle.css_rules.specs.declared.sheet_builder.SheetBuilder.{SheetBuilder}
 use Rattle.css_rules.specs.declared.sheet_builder.Start.TheVariants.{Nothing, AtRule, Other}
-use Rattle.css_rules.specs.Components.{is_at_keyword, is_braces, is_gap, is_semicolon}
-use Rattle.css_rules.specs.Cuts.{Cut, cuts, cuts_behind, trimmed_start, with_front}
+use Rattle.css_components.specs.Components.{is_at_keyword, is_braces, is_gap, is_semicolon}
+use Rattle.css_components.specs.Trimming.{trimmed_start}
+use Rattle.css_rules.specs.Cuts.{Cut, cuts, cuts_behind, with_front}
 use Rattle.css_rules.specs.ReadAll.{joined, read_all}
 use Rattle.css_rules.specs.Refusals.{first_refusal, sooner_of}
 use Rattle.css_rules.specs.SheetBuilding.{HasRead, HasTaken}
-use Rattle.css_rules.specs.Sheets.{rule_of, rules_of, rule_refusals, sheet_refusals}
+use Rattle.css_rules.specs.Heads.{import_of, import_refusals, imports_in, items_in}
+use Rattle.css_rules.specs.Sheets.{cut_refusals, rule_of, rule_refusals, sheet_of, sheet_refusals, sheet_with}
 use Rattle.css_rules.specs.RuleEnds.{begins_at_rule, ends_rule}
+use Rattle.css_rules.specs.declared.head.Role.{Role}
+use Rattle.css_rules.specs.declared.head.Role.TheVariants as roles
+use Rattle.css_rules.specs.Private.Adding.{HasAdded}
+use Rattle.css_rules.specs.Private.Roles.{part_behind, role_in}
 use Rattle.css_rules.specs.Private.Starts.{begun, ends_begun, start_of, start_with}
 use Rattle.css_rules.proofs.CutLemmas.{cuts-marked, cuts-unmarked, first_cut, trimmed_start-gap, trimmed_start-other}
-use Rattle.css_rules.proofs.NestedRules.{rules-read, rules-refused}
+use Rattle.css_rules.proofs.HeadLemmas.{IsBefore, Next, import_here, item_here, next}
 use Rattle.css_rules.proofs.ReadAllLemmas.{right-none}
 use Rattle.css_rules.proofs.RefusalLemmas.{first_refusal-append, sooner_of-none_left, sooner_of-none_right}
 
@@ -154,6 +160,9 @@ start-ends before c = at (trimmed_start before)
 
 -- One more rule.
 
+nothing-here : {A : Type 0} (xs ys zs : List A) → (xs ++ []) ++ (ys ++ zs) ≡ (xs ++ ys) ++ ([] ++ zs)
+nothing-here xs ys zs = ap (λ all. all ++ (ys ++ zs)) (append-nil xs) ∙ sym (append_assoc xs ys zs)
+
 read-more : {A : Type 0} (f : Cut → Option (List A)) (rules : List Cut) (cut : Cut) (old here : List A) → read_all f rules ≡ Some old → f cut ≡ Some here → read_all f (rules ++ cut ∷ []) ≡ Some (old ++ here)
 read-more f [] cut old here e is =
     let none : [] ≡ old = cc e in
@@ -168,18 +177,96 @@ read-more {A = A} f (rule ∷ rules) cut old here e is = at (f rule) (read_all f
         let whole : xs ++ ys ≡ old = cc both in
         ap (joined (Some xs)) (again ys all) ∙ ap Some (sym (append_assoc xs ys here)) ∙ ap (λ zs. Some (zs ++ here)) whole
 
-pub rule-read : (old new : SheetBuilder) (rules : List Cut) (cut : Cut) (here : Option Refusal) (value : List _)
-    → here ≡ first_refusal (rule_refusals cut) → (here ≡ None → rule_of cut ≡ Some value) → new.refusal ≡ sooner_of old.refusal here → new.items ≡ old.items ++ value
-    → HasRead old rules → HasRead new (rules ++ cut ∷ [])
-rule-read old new rules cut here value refusals is refused made h = record {
-  refusal =
-      refused
-      ∙ ap (λ r. sooner_of r here) h.refusal ∙ ap (sooner_of (first_refusal (flat_map rule_refusals rules))) (refusals ∙ ap first_refusal (sym (append-nil (rule_refusals cut))))
-      ∙ sym (ap first_refusal (flat_map-append rule_refusals rules (cut ∷ [])) ∙ first_refusal-append (flat_map rule_refusals rules) (flat_map rule_refusals (cut ∷ [])));
-  items = λ none.
-      let both = sym refused ∙ none in
-      read-more rule_of rules cut old.items value (h.items (sooner_of-none_left old.refusal here both)) (is (sooner_of-none_right old.refusal here both)) ∙ ap Some (sym made);
+-- what rules are refused for with one more behind them
+refused-more : (rules : List Cut) (rule : Cut) (role : Role) → Next rules rule role
+    → cut_refusals (rules ++ rule ∷ []) ≡ cut_refusals rules ++ (flat_map import_refusals (import_here role rule) ++ flat_map rule_refusals (item_here role rule))
+refused-more rules rule role n =
+    let imports = flat_map import_refusals (imports_in rules) in
+    let items = flat_map rule_refusals (items_in rules) in
+    let both : cut_refusals (rules ++ rule ∷ []) ≡ (imports ++ flat_map import_refusals (import_here role rule)) ++ (items ++ flat_map rule_refusals (item_here role rule)) =
+    ap (λ is. flat_map import_refusals is ++ flat_map rule_refusals (items_in (rules ++ rule ∷ []))) n.imports
+    ∙ ap (λ is. flat_map import_refusals (imports_in rules ++ import_here role rule) ++ flat_map rule_refusals is) n.items
+    ∙ ap (λ rs. rs ++ flat_map rule_refusals (items_in rules ++ item_here role rule)) (flat_map-append import_refusals (imports_in rules) (import_here role rule))
+    ∙ ap (λ rs. (imports ++ flat_map import_refusals (import_here role rule)) ++ rs) (flat_map-append rule_refusals (items_in rules) (item_here role rule)) in
+    both ∙ order role n.before
+  where
+    order : (role : Role) → IsBefore role (items_in rules)
+        → (flat_map import_refusals (imports_in rules) ++ flat_map import_refusals (import_here role rule)) ++ (flat_map rule_refusals (items_in rules) ++ flat_map rule_refusals (item_here role rule))
+        ≡ cut_refusals rules ++ (flat_map import_refusals (import_here role rule) ++ flat_map rule_refusals (item_here role rule))
+    order roles.Charset before = nothing-here (flat_map import_refusals (imports_in rules)) (flat_map rule_refusals (items_in rules)) []
+    order roles.Item before = nothing-here (flat_map import_refusals (imports_in rules)) (flat_map rule_refusals (items_in rules)) (flat_map rule_refusals (rule ∷ []))
+    order roles.Import before =
+        let imports = flat_map import_refusals (imports_in rules) in
+        let here = flat_map import_refusals (rule ∷ []) in
+        ap (λ is. (imports ++ here) ++ (flat_map rule_refusals is ++ [])) before
+        ∙ append_assoc imports here []
+        ∙ ap (λ rs. rs ++ (here ++ [])) (sym (append-nil imports))
+        ∙ ap (λ is. (imports ++ flat_map rule_refusals is) ++ (here ++ [])) (sym before)
+
+read-none : {A B : Type 0} (f : A → Option (List B)) (rules more : List A) (old new : List B) → more ≡ rules ++ [] → read_all f rules ≡ Some old → new ≡ old → read_all f more ≡ Some new
+read-none f rules more old new e is same = ap (read_all f) (e ∙ append-nil rules) ∙ is ∙ ap Some (sym same)
+
+-- the refusal that is named of one more
+named-more : (old new here : Option Refusal) (rules : List Cut) (rule : Cut) (more : List Refusal) → cut_refusals (rules ++ rule ∷ []) ≡ cut_refusals rules ++ more → here ≡ first_refusal more
+    → old ≡ first_refusal (cut_refusals rules) → new ≡ sooner_of old here → new ≡ first_refusal (cut_refusals (rules ++ rule ∷ []))
+named-more old new here rules rule more all is before made =
+    made
+    ∙ ap (λ r. sooner_of r here) before
+    ∙ ap (sooner_of (first_refusal (cut_refusals rules))) is
+    ∙ sym (ap first_refusal all ∙ first_refusal-append (cut_refusals rules) more)
+
+-- what is added stays where nothing else of the builder counts
+added-still : (role : Role) (old between new : SheetBuilder) (rule : Cut) → new.refusal ≡ between.refusal → new.imports ≡ between.imports → new.items ≡ between.items → HasAdded role old between rule → HasAdded role old new rule
+added-still roles.Charset old between new rule refusal imports items added = record { refusal = refusal ∙ added.refusal; imports = imports ∙ added.imports; items = items ∙ added.items }
+added-still roles.Import old between new rule refusal imports items added = record {
+  refusal = refusal ∙ added.refusal;
+  imports = λ none. (let more = added.imports (sym refusal ∙ none) in (more.0, more.1, imports ∙ more.2));
+  items = items ∙ added.items;
 }
+added-still roles.Item old between new rule refusal imports items added = record {
+  refusal = refusal ∙ added.refusal;
+  items = λ none. (let more = added.items (sym refusal ∙ none) in (more.0, more.1, items ∙ more.2));
+  imports = imports ∙ added.imports;
+}
+
+pub role-read : (old between new : SheetBuilder) (rules : List Cut) (rule : Cut) (role : Role) → role ≡ role_in old.part rule → new.part ≡ part_behind role
+    → new.refusal ≡ between.refusal → new.imports ≡ between.imports → new.items ≡ between.items → HasAdded role old between rule → HasRead old rules → HasRead new (rules ++ rule ∷ [])
+role-read old between new rules rule role told part refusal imports items added h =
+    at role (subst (Next rules rule) (sym (told ∙ ap (λ p. role_in p rule) h.part)) (next rules rule)) part (added-still role old between new rule refusal imports items added)
+  where
+    at : (role : Role) → Next rules rule role → new.part ≡ part_behind role → HasAdded role old new rule → HasRead new (rules ++ rule ∷ [])
+    at roles.Charset n part same = record {
+      refusal = same.refusal ∙ h.refusal ∙ ap first_refusal (sym (refused-more rules rule roles.Charset n ∙ append-nil (cut_refusals rules)));
+      imports = λ none. read-none import_of (imports_in rules) (imports_in (rules ++ rule ∷ [])) old.imports new.imports n.imports (h.imports (sym same.refusal ∙ none)) same.imports;
+      items = λ none. read-none rule_of (items_in rules) (items_in (rules ++ rule ∷ [])) old.items new.items n.items (h.items (sym same.refusal ∙ none)) same.items;
+      part = part ∙ sym n.part;
+    }
+    at roles.Import n part added = record {
+      refusal =
+          named-more old.refusal new.refusal (first_refusal (import_refusals rule)) rules rule _ (refused-more rules rule roles.Import n)
+          (ap first_refusal (sym (append-nil (flat_map import_refusals (rule ∷ [])) ∙ append-nil (import_refusals rule)))) h.refusal added.refusal;
+      imports = λ none.
+          let more = added.imports none in
+          ap (read_all import_of) n.imports
+          ∙ read-more import_of (imports_in rules) rule old.imports more.0 (h.imports (sooner_of-none_left old.refusal (first_refusal (import_refusals rule)) (sym added.refusal ∙ none))) more.1
+          ∙ ap Some (sym more.2);
+      items = λ none. read-none rule_of (items_in rules) (items_in (rules ++ rule ∷ [])) old.items new.items n.items
+          (h.items (sooner_of-none_left old.refusal (first_refusal (import_refusals rule)) (sym added.refusal ∙ none))) added.items;
+      part = part ∙ sym n.part;
+    }
+    at roles.Item n part added = record {
+      refusal =
+          named-more old.refusal new.refusal (first_refusal (rule_refusals rule)) rules rule _ (refused-more rules rule roles.Item n)
+          (ap first_refusal (sym (append-nil (rule_refusals rule)))) h.refusal added.refusal;
+      imports = λ none. read-none import_of (imports_in rules) (imports_in (rules ++ rule ∷ [])) old.imports new.imports n.imports
+          (h.imports (sooner_of-none_left old.refusal (first_refusal (rule_refusals rule)) (sym added.refusal ∙ none))) added.imports;
+      items = λ none.
+          let more = added.items none in
+          ap (read_all rule_of) n.items
+          ∙ read-more rule_of (items_in rules) rule old.items more.0 (h.items (sooner_of-none_left old.refusal (first_refusal (rule_refusals rule)) (sym added.refusal ∙ none))) more.1
+          ∙ ap Some (sym more.2);
+      part = part ∙ sym n.part;
+    }
 
 -- One more component.
 
@@ -200,15 +287,20 @@ taken-ending old new taken c ends current start reads h = record {
 
 -- it goes before the next end
 pub taken-going : (old new : SheetBuilder) (taken : List Component) (c : Component) → ends_begun old.start c ≡ false → new.current ≡ old.current ++ c ∷ [] → new.start ≡ start_with old.start c
-    → new.refusal ≡ old.refusal → new.items ≡ old.items → HasTaken old taken → HasTaken new (taken ++ c ∷ [])
-taken-going old new taken c ends current start refusal items h = record {
+    → new.refusal ≡ old.refusal → new.imports ≡ old.imports → new.items ≡ old.items → new.part ≡ old.part → HasTaken old taken → HasTaken new (taken ++ c ∷ [])
+taken-going old new taken c ends current start refusal imports items part h = record {
   rules = h.rules;
   cut =
       cuts-more ends_rule [] taken h.rules old.current c h.cut
       ∙ ap (with_last h.rules old.current c)
       (ap (λ b. ends_rule b c) (since-none h.rules old.current) ∙ sym (start-ends old.current c) ∙ ap (λ s. ends_begun s c) (sym h.start) ∙ ends)
       ∙ ap (λ front. h.rules ++ unended front ∷ []) (sym current);
-  read = record { refusal = refusal ∙ h.read.refusal; items = λ none. h.read.items (sym refusal ∙ none) ∙ ap Some (sym items) };
+  read = record {
+    refusal = refusal ∙ h.read.refusal;
+    imports = λ none. h.read.imports (sym refusal ∙ none) ∙ ap Some (sym imports);
+    items = λ none. h.read.items (sym refusal ∙ none) ∙ ap Some (sym items);
+    part = part ∙ h.read.part;
+  };
   start = start ∙ ap (λ s. start_with s c) h.start ∙ sym (ap start_of current ∙ start-more old.current c);
 }
 
@@ -216,9 +308,12 @@ taken-going old new taken c ends current start refusal items h = record {
 
 pub record IsRead (builder : SheetBuilder) (taken : List Component) : Type 0 where
   pub refusal : builder.refusal ≡ first_refusal (sheet_refusals taken)
-  pub items : builder.refusal ≡ None → rules_of taken ≡ Some builder.items
+  pub sheet : builder.refusal ≡ None → sheet_of taken ≡ Some (record { imports = builder.imports; items = builder.items })
 
 pub taken-read : (old new : SheetBuilder) (taken : List Component) → ((rules : List Cut) → HasRead old rules → HasRead new (rules ++ unended old.current ∷ [])) → HasTaken old taken → IsRead new taken
 taken-read old new taken reads h =
     let read = subst (HasRead new) (sym h.cut) (reads h.rules h.read) in
-    record { refusal = read.refusal ∙ ap first_refusal (sym (rules-refused taken)); items = λ none. rules-read taken ∙ read.items none }
+    record {
+      refusal = read.refusal;
+      sheet = λ none. ap (λ o. sheet_with o (read_all rule_of (items_in (cuts ends_rule taken)))) (read.imports none) ∙ ap (sheet_with (Some new.imports)) (read.items none);
+    }

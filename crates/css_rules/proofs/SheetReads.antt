@@ -34,7 +34,7 @@ use Rattle.sheet_types.specs.declared.sheet.Declaration.{Declaration}
 use Rattle.selector_types.specs.declared.selector.Selector.{Selector}
 use Rattle.selector_types.specs.Spelling.{colon, list_spelling, list_text}
 use Rattle.selector_types.specs.ReadableSelectors.{is_readable_list}
-use Rattle.css_rules.specs.Components.{is_gap}
+use Rattle.css_components.specs.Components.{is_gap}
 use Rattle.sheet_types.specs.declared.sheet.Item.{Item}
 use Rattle.css_rules.specs.Printable.{IsPrintableCondition, IsPrintableDeclaration, IsPrintablePassed, ArePrintable, begins_solid}
 use Rattle.sheet_types.specs.Standing.{AllStand, ConditionStands, Stands}

@@ -5,8 +5,8 @@ use Rattle.std.proofs.lemmas.List.{append-nil}
 use Rattle.css_tokens.specs.NameText.{name_text}
 use Rattle.css_tokens.specs.Names.{is_name, name_of_word}
 use Rattle.sheet_types.specs.declared.sheet.Declaration.{Declaration}
-use Rattle.css_rules.specs.Components.{is_braces, is_semicolon}
-use Rattle.css_rules.specs.Cuts.{trimmed_start}
+use Rattle.css_components.specs.Components.{is_braces, is_semicolon}
+use Rattle.css_components.specs.Trimming.{trimmed_start}
 use Rattle.css_rules.specs.Declarations.{begins_custom}
 use Rattle.css_rules.specs.ReadAll.{joined, read_all}
 use Rattle.css_rules.specs.Sheets.{declarations_of, item_of}

@@ -14,7 +14,7 @@ use Rattle.sheet_types.specs.declared.sheet.Declaration.{Declaration}
 use Rattle.selector_types.specs.declared.selector.Selector.{Selector}
 use Rattle.selector_types.specs.Spelling.{colon, list_spelling, list_text}
 use Rattle.sheet_types.specs.declared.sheet.Item.{Item}
-use Rattle.css_rules.specs.Components.{is_gap}
+use Rattle.css_components.specs.Components.{is_gap}
 use Rattle.css_rules.specs.Printable.{IsPrintableCondition, IsPrintableDeclaration, IsPrintableLeaf, IsPrintablePassed, ArePrintable, begins_solid}
 use Rattle.media_spelling.specs.SupportsValues.{ValueStands}
 use Rattle.css_tokens.specs.Values.{value_text}

@@ -7,20 +7,26 @@ use Rattle.css_tokens.specs.declared.component.Component.{Component}
 use Rattle.css_rules.specs.declared.refusal.Refusal.{Refusal}
 use Rattle.selector_types.specs.declared.selector.Selector.{Selector}
 use Rattle.sheet_types.specs.declared.sheet.Declaration.{Declaration}
+use Rattle.import_rules.specs.declared.import.ImportRule.{ImportRule}
+use Rattle.import_rules.specs.declared.import.ImportRule.TheVariants.{Read, Waiting, Unread}
+use Rattle.sheet_types.specs.declared.sheet.Import.{Import}
 use Rattle.sheet_types.specs.declared.sheet.Sheet.{Sheet}
 use Rattle.css_rules.specs.declared.at_rule.AtRule.{AtRule}
 use Rattle.css_rules.specs.declared.at_rule.AtRule.TheVariants as rules
 use Rattle.css_rules.specs.declared.refusal.Sought.TheVariants.{RevertLayerOrUrl}
 use Rattle.sheet_types.specs.declared.sheet.Item.{Item, Group, Passed}
 use Rattle.css_rules.specs.AtRules.{at_rule_of}
+use Rattle.css_rules.specs.Heads.{import_of, import_refusals, import_rule_of, imports_in, items_in, read_as_import, refused_import}
 use Rattle.css_rules.specs.NestedRules.{in_block}
 use Rattle.css_rules.specs.ReadAll.{read_all}
-use Rattle.css_rules.specs.Components.{head, inside, is_braces}
-use Rattle.css_rules.specs.Cuts.{Cut, cuts, trimmed}
+use Rattle.css_components.specs.Components.{head, inside, is_braces}
+use Rattle.css_components.specs.Trimming.{trimmed}
+use Rattle.css_rules.specs.Cuts.{Cut, cuts}
 use Rattle.css_rules.specs.Declarations.{declaration_of}
 use Rattle.css_rules.specs.Refusals.{first_refusal, first_waiting, unbuilt, unbuilt_at, waiting_in, has_sought, sought_for, sought_in, is_unbuilt_property}
 use Rattle.selector_tree.specs.Signs.{list_in, list_reading, mark_of, read}
-use Rattle.css_rules.specs.Sheets.{at_rule_items, at_rule_refusals, reading, refusing, is_unbuilt, built, plain_item, is_rule, item_of, declarations_of, prelude_of, style_with, first_place, leftover, style_of, rule_of, rules_of, sheet_of, declaration_refusals, plain_refusals, mark_place, item_refusals, block_refusals, unread, prelude_refusals, leftover_refusals, style_refusals, rule_refusals, sheet_refusals}
+use Rattle.css_rules.specs.Places.{first_place}
+use Rattle.css_rules.specs.Sheets.{at_rule_items, at_rule_refusals, reading, refusing, is_unbuilt, built, plain_item, is_rule, item_of, declarations_of, prelude_of, style_with, leftover, style_of, rule_of, rules_of, sheet_of, declaration_refusals, plain_refusals, mark_place, item_refusals, block_refusals, unread, prelude_refusals, leftover_refusals, style_refusals, rule_refusals, rules_refusals, sheet_refusals, sheet_with}
 use Rattle.css_rules.specs.RuleEnds.{begins_at_rule, block_of, ends_in_braces, ends_rule, ends_item}
 use Rattle.css_rules.proofs.ListsRead.{list-given, list-read}
 use Rattle.css_rules.proofs.ReadAllLemmas.{Told, left-none, right-none, told-all, told-joined, told-mapped, told-read, told-refused}
@@ -120,24 +126,25 @@ at-rule-told : (at : ℕ) (rule : AtRule) (block : List Component) (inner : Opti
 at-rule-told at (rules.Group condition) block inner rs told = told-mapped (λ items. Group (record { condition = condition; items = items; at = at }) ∷ []) inner rs told
 at-rule-told at (rules.PassedOn kind prelude) block inner rs told =
     passed-told (Passed (record { kind = kind; prelude = prelude; block = block; at = at })) prelude block (has_sought RevertLayerOrUrl prelude) (has_sought RevertLayerOrUrl block) refl refl
+at-rule-told at rules.Import block inner rs told = λ e. cc e
 at-rule-told at rules.Waiting block inner rs told = λ e. cc e
 at-rule-told at rules.Unknown block inner rs told = refl
 at-rule-told at rules.Unread block inner rs told = λ e. cc e
 
 -- components that have a sheet exactly where it is refused for nothing
 abbrev IsTold : List Component → Type 0
-IsTold cs = Told (rules_of cs) (sheet_refusals cs)
+IsTold cs = Told (rules_of cs) (rules_refusals cs)
 
-block-rules-told : (mark : Option Component) → MatchOption mark (Unit {0}) (λ c. IsTold (inside c)) → Told (in_block reading rules_of mark) (in_block refusing sheet_refusals mark)
+block-rules-told : (mark : Option Component) → MatchOption mark (Unit {0}) (λ c. IsTold (inside c)) → Told (in_block reading rules_of mark) (in_block refusing rules_refusals mark)
 block-rules-told None told = refl
-block-rules-told (Some mark) told = choice-told (is_braces mark) (rules_of (inside mark)) (Some []) (sheet_refusals (inside mark)) [] told refl
+block-rules-told (Some mark) told = choice-told (is_braces mark) (rules_of (inside mark)) (Some []) (rules_refusals (inside mark)) [] told refl
 
 rule-told : (cut : Cut) → MatchOption cut.mark (Unit {0}) (λ c. IsTold (inside c)) → Told (rule_of cut) (rule_refusals cut)
 rule-told cut told =
     let rule = trimmed cut.front in
     let at_rule = at_rule_of rule (ends_in_braces cut.mark) in
     let inner = in_block reading rules_of cut.mark in
-    let refused = in_block refusing sheet_refusals cut.mark in
+    let refused = in_block refusing rules_refusals cut.mark in
     choice-told (begins_at_rule rule) (at_rule_items (first_place rule 0) at_rule (block_of cut.mark) inner) (style_of cut.front cut.mark)
     (at_rule_refusals (first_place rule 0) at_rule (block_of cut.mark) refused) (style_refusals cut.front cut.mark)
     (at-rule-told (first_place rule 0) at_rule (block_of cut.mark) inner refused (block-rules-told cut.mark told))
@@ -151,12 +158,38 @@ rules-told : (cs : List Component) → IsTold cs
 rules-told cs =
     by_blocks IsTold
     (λ cs told.
-    subst (λ o. Told o (sheet_refusals cs)) (sym (rules-read cs))
+    subst (λ o. Told o (rules_refusals cs)) (sym (rules-read cs))
     (subst (λ rs. Told (read_all rule_of (cuts ends_rule cs)) rs) (sym (rules-refused cs)) (all-told (cuts ends_rule cs) told)))
     cs
 
+-- Sheets.
+
+each-told : (cut : Cut) → Told (rule_of cut) (rule_refusals cut)
+each-told cut = rule-told cut (at cut.mark)
+  where
+    at : (mark : Option Component) → MatchOption mark (Unit {0}) (λ c. IsTold (inside c))
+    at None = tt
+    at (Some mark) = rules-told (inside mark)
+
+import-told : (cut : Cut) → Told (import_of cut) (import_refusals cut)
+import-told cut = at (import_rule_of cut)
+  where
+    at : (rule : ImportRule) → Told (read_as_import rule) (refused_import (first_place (trimmed cut.front) 0) rule)
+    at (Read i) = refl
+    at Waiting = λ e. cc e
+    at Unread = λ e. cc e
+
+both-told : (o : Option (List Import)) (p : Option (List Item)) (rs ss : List Refusal) → Told o rs → Told p ss → Told (sheet_with o p) (rs ++ ss)
+both-told None p rs ss h k = λ e. h (left-none rs ss e)
+both-told (Some imports) None rs ss h k = λ e. k (right-none rs ss e)
+both-told (Some imports) (Some items) rs ss h k = ap (λ r. r ++ ss) h ∙ k
+
 sheet-told : (cs : List Component) → Told (sheet_of cs) (sheet_refusals cs)
-sheet-told cs = told-mapped (λ items. record { items = items }) (rules_of cs) (sheet_refusals cs) (rules-told cs)
+sheet-told cs =
+    let imports = imports_in (cuts ends_rule cs) in
+    let items = items_in (cuts ends_rule cs) in
+    both-told (read_all import_of imports) (read_all rule_of items) (flat_map import_refusals imports) (flat_map rule_refusals items)
+    (told-all import_of import_refusals import-told imports) (told-all rule_of rule_refusals each-told items)
 
 pub sheet-read : (cs : List Component) (sheet : Sheet) → sheet_of cs ≡ Some sheet → sheet_refusals cs ≡ []
 sheet-read cs sheet e = told-read (sheet_of cs) sheet (sheet_refusals cs) (sheet-told cs) e

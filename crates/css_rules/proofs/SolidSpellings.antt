@@ -23,8 +23,8 @@ use Rattle.media_spelling.specs.declared.condition.Query.{Query}
 use Rattle.media_spelling.specs.declared.supports.Supports.{Supports}
 use Rattle.media_tree.specs.ReadableQueries.{are_readable_queries, has_two, is_readable_condition, is_readable_query, is_readable_type, is_readable_typed, readable}
 use Rattle.sheet_types.proofs.ItemShapes.{IsSome, some-left, some-right}
-use Rattle.css_rules.specs.Components.{is_gap}
-use Rattle.css_rules.specs.Cuts.{trimmed_end}
+use Rattle.css_components.specs.Components.{is_gap}
+use Rattle.css_components.specs.Trimming.{trimmed_end}
 use Rattle.css_rules.specs.Printable.{begins_solid}
 use Rattle.css_rules.proofs.CutLemmas.{trimmed_end-other}
 use Rattle.css_rules.proofs.Heads.{gap-Block, gap-Single}

@@ -1,6 +1,7 @@
 -- What holds of components as they stand in a text holds of the rules in them, and of their preludes and blocks.
 use Rattle.std.proofs.Common.{◌≡◌, ℕ, List, [], ◌∷◌, ◌++◌, map, Bool, true, false, ◌&&◌, ◌||◌, not, Option, Some, None, refl, sym, ◌∙◌, ap, subst, MatchOption, codes, inl, inr}
 use Rattle.std.specs.List.{list_all, list_any, AllByRecursion}
+use Rattle.std.proofs.lemmas.List.Folds.{list_all-append}
 use Rattle.std.proofs.lemmas.Bool.{false≢true, cases_Bool}
 use lib.Pointwise.{bytes_decides}
 use Rattle.css_tokens.specs.declared.component.Component.{Component}
@@ -14,13 +15,15 @@ use Rattle.sheet_types.specs.declared.sheet.Group as group
 use Rattle.sheet_types.specs.declared.sheet.Item.{Item}
 use Rattle.sheet_types.specs.declared.sheet.Item as item
 use Rattle.sheet_types.specs.declared.sheet.Passed.{Passed}
+use Rattle.sheet_types.specs.declared.sheet.Sheet.{Sheet}
 use Rattle.css_rules.specs.AtRules.{behind_keyword, fits_prelude}
-use Rattle.css_rules.specs.Components.{inside, is_braces, is_gap, is_semicolon}
-use Rattle.css_rules.specs.Cuts.{Cut, cuts, cuts_behind, with_front, trimmed, trimmed_start, trimmed_end}
+use Rattle.css_components.specs.Components.{inside, is_braces, is_gap, is_semicolon}
+use Rattle.css_components.specs.Trimming.{trimmed, trimmed_start, trimmed_end}
+use Rattle.css_rules.specs.Cuts.{Cut, cuts, cuts_behind, with_front}
 use Rattle.css_rules.specs.Refusals.{has_sought}
 use Rattle.css_rules.specs.declared.refusal.Sought.TheVariants.{RevertLayerOrUrl}
 use Rattle.css_rules.specs.RuleEnds.{begins_at_rule, ends_in_braces, ends_rule}
-use Rattle.css_rules.specs.Sheets.{rule_of, rules_of}
+use Rattle.css_rules.specs.Sheets.{rule_of, rules_of, sheet_of}
 use Rattle.css_rules.proofs.AtRuleShapes.{HasBlock, IsGroup, IsPassed, ReadsCondition, prelude_in, rule-shape}
 use Rattle.css_rules.proofs.BoolLemmas.{and-left, and-right, and-both}
 use Rattle.css_rules.proofs.CutAgain.{trimmed_end-solid}
@@ -29,6 +32,7 @@ use Rattle.css_rules.proofs.FromSourceParts.{IsPart, all-end, all-trimmed, none-
 use Rattle.css_rules.proofs.Heads.{braces-Single, braces-Block}
 use Rattle.css_rules.proofs.NestedRules.{InBlocks, OfMark, by_blocks, rules-read}
 use Rattle.css_rules.proofs.ReadAllLemmas.{read_all-holds}
+use Rattle.css_rules.proofs.RestRules.{sheet-shape}
 use Rattle.css_rules.proofs.RuleShapes.{IsStyled}
 use Rattle.css_rules.proofs.StandCuts.{Joins, JoinsAt, MarkStands, joins-cuts, stands-trimmed}
 use Rattle.css_rules.proofs.StandLists.{IsStop, ReadingLaws, StandsAt, StandsBefore, stands-front, stands-back, stands-tail, stands-inside}
@@ -281,3 +285,18 @@ module _ (laws : ReadingLaws) where
           (λ xs within source items e.
           read_all-holds P IsKnown rule_of cases.nothing cases.both rule-holds (cuts ends_rule xs) (known (cuts ends_rule xs) (source-rules xs source) within) items (sym (rules-read xs) ∙ e))
           cs
+
+      -- the same of the items of a sheet
+      pub sheet-holds : (cs : List Component) (sheet : Sheet) → AreSource good cs → sheet_of cs ≡ Some sheet → P sheet.items
+      sheet-holds cs sheet source e =
+          let is = sheet-shape cs sheet e in
+          let front = is.behind.front in
+          let rest = is.behind.rest in
+          let sound = sym (list_all-append (sound_by good) front rest) ∙ sym (ap (list_all (sound_by good)) is.behind.split) ∙ source.sound in
+          items-hold rest
+          (record {
+            sound = and-right (list_all (sound_by good) front) (list_all (sound_by good) rest) sound;
+            behind = source.behind;
+            stands = stands-back laws front rest source.behind (subst (λ (t : List Component). StandsAt t source.behind) is.behind.split source.stands);
+          })
+          sheet.items is.items

@@ -7,8 +7,9 @@ use Rattle.css_tokens.specs.declared.component.Component.{Component}
 use Rattle.css_rules.specs.declared.cuts.Span.{Span}
 use Rattle.css_rules.specs.declared.declaration.Found.{Found}
 use Rattle.sheet_types.specs.declared.sheet.Declaration.{Declaration}
-use Rattle.css_rules.specs.Components.{is_colon, is_gap}
-use Rattle.css_rules.specs.Cuts.{cuts, trimmed, trimmed_start, trimmed_end}
+use Rattle.css_components.specs.Components.{is_colon, is_gap}
+use Rattle.css_components.specs.Trimming.{trimmed, trimmed_start, trimmed_end}
+use Rattle.css_rules.specs.Cuts.{cuts}
 use Rattle.css_rules.specs.Declarations.{after_colon}
 use Rattle.css_rules.specs.Private.Spans.{IsWithin, StandsLast, at_span, behind, declared_in}
 use Rattle.css_rules.proofs.CutLemmas.{cuts_left, trimmed_start-gap, trimmed_start-other}

@@ -12,8 +12,9 @@ use Rattle.css_tokens.specs.Piece.{Piece, Word, word_of, spelled}
 use Rattle.css_tokens.specs.Tokens.{classes_of}
 use Rattle.css_tokens.specs.Trees.{is_text, words_all}
 use Rattle.css_tokens.specs.Values.{is_gap as is_gap_kind}
-use Rattle.css_rules.specs.Components.{head, is_gap, is_braces, is_semicolon, is_semicolon_kind, is_delim_kind, is_bang, is_ident, is_keyword, name_of}
-use Rattle.css_rules.specs.Cuts.{Cut, cuts_behind, with_front, trimmed, trimmed_start, trimmed_end}
+use Rattle.css_components.specs.Components.{head, is_gap, is_braces, is_semicolon, is_semicolon_kind, is_delim_kind, is_bang, is_ident, is_keyword, name_of}
+use Rattle.css_components.specs.Trimming.{trimmed, trimmed_start, trimmed_end}
+use Rattle.css_rules.specs.Cuts.{Cut, cuts_behind, with_front}
 use Rattle.css_rules.specs.Declarations.{is_important}
 use Rattle.css_rules.specs.RuleEnds.{ends_in_braces}
 use Rattle.css_rules.proofs.CutAgain.{trimmed_end-solid}

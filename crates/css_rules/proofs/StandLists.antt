@@ -13,7 +13,7 @@ use Rattle.css_tokens.specs.Piece.{Piece, Word, word_of, spelled}
 use Rattle.css_tokens.specs.Tokens.{First, ReadsTo, classes_of, first_front, word}
 use Rattle.css_tokens.specs.Trees.{closing, pieces_of, pieces_all, pieces_of-Single, pieces_of-Block, words_all}
 use Rattle.css_tokens.specs.Values.{is_gap as is_gap_word}
-use Rattle.css_rules.specs.Components.{inside, layer_items}
+use Rattle.css_components.specs.Components.{inside, layer_items}
 use Rattle.css_rules.proofs.Heads.{inside-Block}
 use Rattle.css_rules.proofs.ValueFacts.{shape_of}
 

@@ -22,8 +22,9 @@ use Rattle.sheet_types.specs.declared.sheet.Item as item
 use Rattle.sheet_types.specs.declared.sheet.Passed.{Passed}
 use Rattle.sheet_types.specs.declared.sheet.Style as style
 use Rattle.sheet_types.specs.declared.sheet.Sheet.{Sheet}
-use Rattle.css_rules.specs.Components.{head, inside, is_ident, is_colon, is_bang, is_semicolon, is_braces, is_custom, name_of}
-use Rattle.css_rules.specs.Cuts.{Cut, cuts, cuts_at, trimmed, trimmed_start}
+use Rattle.css_components.specs.Components.{head, inside, is_ident, is_colon, is_bang, is_semicolon, is_braces, is_custom, name_of}
+use Rattle.css_components.specs.Trimming.{trimmed, trimmed_start}
+use Rattle.css_rules.specs.Cuts.{Cut, cuts, cuts_at}
 use Rattle.css_rules.specs.Declarations.{property_name, after_colon, may_be_value, is_important, value_of, declared, declared_after, declaration_of, begins_custom}
 use Rattle.sheet_types.specs.Leaves.{Leaf, all_leaves, group_leaves, leaves}
 use Rattle.css_rules.specs.Sheets.{item_of, declarations_of, sheet_of}
@@ -37,8 +38,8 @@ use Rattle.css_rules.proofs.GroupLeaves.{leaves-Group, leaves-Passed, leaves-Oth
 use Rattle.sheet_types.proofs.ItemShapes.{leaves-hold, only-leaves}
 use Rattle.css_rules.proofs.StandCuts.{JoinsAt, Joins, joins-cuts, stands-start, stands-trimmed, FrontStands, ends_some_item, item-fronts, bang-stop}
 use Rattle.css_rules.proofs.ReadAllLemmas.{read_all-holds}
-use Rattle.css_rules.proofs.RuleShapes.{IsStyled, item-no_block, item-shape, sheet-items}
-use Rattle.css_rules.proofs.SourceRules.{AreStopped, IsReadPassed, ReadCases, items-hold}
+use Rattle.css_rules.proofs.RuleShapes.{IsStyled, item-no_block, item-shape}
+use Rattle.css_rules.proofs.SourceRules.{AreStopped, IsReadPassed, ReadCases, sheet-holds}
 use Rattle.css_rules.proofs.StandLists.{ReadingLaws, StandsAt, StandsBefore, text-spelled, stands-front, stands-back, stands-tail}
 
 abbrev OfSome : {X : Type 0} → (X → Type 0) → Option X → Type 0
@@ -202,6 +203,6 @@ module _ (laws : StandingLaws) where
   pub sheet-stands : (text : List ℕ) (cs : List Component) (sheet : Sheet) → Reads text (words_all cs) → IsTrue (all_formed cs) → sheet_of cs ≡ Some sheet → AllStand sheet.items
   sheet-stands text cs sheet reads formed e =
       let whole : StandsAt cs [] = record { reads = subst (λ (t : List ℕ). ReadsTo t (words_all cs) []) (text-spelled (after_mark text) (words_all cs) [] reads.1) reads.1 } in
-      items-hold laws.reading is_spelled AllStand cases cs
+      sheet-holds laws.reading is_spelled AllStand cases cs sheet
       (record { sound = all-sound is_spelled cs formed (laws.spelled text cs reads); behind = []; stands = whole })
-      sheet.items (sheet-items cs sheet e)
+      e

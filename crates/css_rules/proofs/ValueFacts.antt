@@ -14,8 +14,8 @@ use Rattle.css_tokens.specs.Trees.{words_all, all_formed, is_formed, opens, is_f
 use Rattle.css_tokens.specs.Values.{is_gap as is_gap_kind, short_text, value_words, value_text}
 use Rattle.css_tokens.specs.ValueAgain.{is_solid, short_piece, again, all_again, value_again, again-Single, again-Block, head_kind-Single, head_kind-Block}
 use Rattle.css_tokens.specs.Values.{is_gap as is_gap_kind}
-use Rattle.css_rules.specs.Components.{Layer, is_gap, is_semicolon, is_bang, is_braces, is_semicolon_kind, is_delim_kind}
-use Rattle.css_rules.specs.Cuts.{trimmed, trimmed_end}
+use Rattle.css_components.specs.Components.{Layer, is_gap, is_semicolon, is_bang, is_braces, is_semicolon_kind, is_delim_kind}
+use Rattle.css_components.specs.Trimming.{trimmed, trimmed_end}
 use Rattle.css_rules.proofs.CutLemmas.{not-true, trimmed_start-other, trimmed_end-other}
 use Rattle.css_rules.proofs.CutAgain.{last_of}
 use Rattle.sheet_types.proofs.PlacesTrees.{OnePairing}

@@ -13,7 +13,7 @@ use Rattle.css_tokens.specs.Trees.{pieces_of, pieces_all, words_all, closing, pi
 use Rattle.selector_tree.specs.Signs.{is_comment_kind}
 use Rattle.css_rules.specs.declared.waiting.Seen.{Seen}
 use Rattle.css_rules.specs.declared.waiting.Seen.TheVariants.{Nothing, Colon, Waiting}
-use Rattle.css_rules.specs.Components.{is_colon_kind}
+use Rattle.css_components.specs.Components.{is_colon_kind}
 use Rattle.css_rules.specs.Refusals.{is_ampersand, is_is, begins_is, waits_before, first_refusal, first_waiting, has_waiting, unbuilt, unbuilt_at, waiting_in}
 use Rattle.css_rules.specs.Private.Waiting.{begun, seen_at, seen_over, place_seen}
 use Rattle.css_rules.proofs.Heads.{piece_of}

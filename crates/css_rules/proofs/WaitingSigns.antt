@@ -38,7 +38,7 @@ use Rattle.selector_tree.specs.Signs.{argued, attribute_sign, call_by, call_of, 
 use Rattle.selector_types.specs.Spelling.{list_spelling}
 use Rattle.css_rules.specs.declared.waiting.Seen.{Seen}
 use Rattle.css_rules.specs.declared.waiting.Seen.TheVariants as seen
-use Rattle.css_rules.specs.Components.{Layer, is_colon_kind}
+use Rattle.css_components.specs.Components.{Layer, is_colon_kind}
 use Rattle.css_rules.specs.Private.Waiting.{begun, place_seen, seen_at, seen_over}
 use Rattle.css_rules.specs.Refusals.{has_waiting, is_ampersand, is_is}
 use Rattle.css_rules.proofs.BoolLemmas.{and-left, and-both}

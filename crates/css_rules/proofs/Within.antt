@@ -14,7 +14,7 @@ use Rattle.css_tokens.specs.Trees.{pieces_of, pieces_all, closing, pieces_of-Sin
 use Rattle.selector_types.specs.declared.selector.Selector.{Selector}
 use Rattle.selector_tree.specs.Grammar.{Mark, Member, is_comma_sign, is_gap_sign, first_place, selector_of, empty_before, with_mark, cut_at_commas, fault_place, or_fault, member_reading, first_and, members_reading}
 use Rattle.selector_tree.specs.Signs.{mark_of, list_reading}
-use Rattle.css_rules.specs.Components.{head, inside, layer_items}
+use Rattle.css_components.specs.Components.{head, inside, layer_items}
 use Rattle.css_rules.proofs.Heads.{head-Single, head-Block, inside-Block}
 use Rattle.css_rules.proofs.MarkPlaces.{mark-place}
 use Rattle.css_rules.proofs.BoolLemmas.{and-left, and-right, and-both}

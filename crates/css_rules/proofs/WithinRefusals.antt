@@ -11,11 +11,13 @@ use Rattle.css_rules.specs.declared.refusal.Sought.{Sought}
 use Rattle.selector_types.specs.declared.selector.Selector.{Selector}
 use Rattle.selector_tree.specs.Signs.{list_reading}
 use Rattle.sheet_types.specs.declared.sheet.Declaration.{Declaration}
-use Rattle.css_rules.specs.Components.{head, inside, is_ident, is_colon, is_bang, is_semicolon, is_braces, is_custom, name_of}
-use Rattle.css_rules.specs.Cuts.{Cut, cuts, cuts_at, trimmed, trimmed_start}
+use Rattle.css_components.specs.Components.{head, inside, is_ident, is_colon, is_bang, is_semicolon, is_braces, is_custom, name_of}
+use Rattle.css_components.specs.Trimming.{trimmed, trimmed_start}
+use Rattle.css_rules.specs.Cuts.{Cut, cuts, cuts_at}
 use Rattle.css_rules.specs.Declarations.{property_name, after_colon, may_be_value, is_important, value_of, declared, declared_after, declaration_of, begins_custom}
 use Rattle.css_rules.specs.Refusals.{leads, sooner, sooner_of, unbuilt, first_refusal, is_sought, unbuilt_at, waits_before, first_waiting, waiting_in, sought_for, sought_in, is_unbuilt_property}
-use Rattle.css_rules.specs.Sheets.{at_rule_refusals, refusing, first_place, mark_place, is_rule, declaration_refusals, plain_refusals, item_refusals, block_refusals, unread, prelude_refusals, leftover_refusals, style_refusals, rule_refusals, sheet_refusals}
+use Rattle.css_rules.specs.Places.{first_place}
+use Rattle.css_rules.specs.Sheets.{at_rule_refusals, refusing, mark_place, is_rule, declaration_refusals, plain_refusals, item_refusals, block_refusals, unread, prelude_refusals, leftover_refusals, style_refusals, rule_refusals, rules_refusals, sheet_refusals}
 use Rattle.css_rules.specs.RuleEnds.{begins_at_rule, block_of, ends_in_braces, ends_rule, ends_item}
 use Rattle.css_rules.proofs.FromSourceDeclarations.{each-append}
 use Rattle.css_rules.proofs.FromSourceParts.{all-start, all-trimmed, IsPart, parts-cuts}
@@ -27,13 +29,17 @@ use Rattle.sheet_types.specs.declared.sheet.GroupCondition.{GroupCondition}
 use Rattle.sheet_types.specs.declared.sheet.GroupCondition.TheVariants as conditions
 use Rattle.sheet_types.specs.declared.sheet.PassedKind.{PassedKind}
 use Rattle.css_rules.specs.declared.at_rule.AtKeyword.{AtKeyword}
-use Rattle.css_rules.specs.declared.at_rule.AtKeyword.TheVariants.{Media, Supports, PassedOn, Waiting, Unknown}
+use Rattle.css_rules.specs.declared.at_rule.AtKeyword.TheVariants.{Media, Supports, PassedOn, Import, Charset, Layer, Unknown}
 use Rattle.css_rules.specs.declared.at_rule.AtRule.{AtRule}
 use Rattle.css_rules.specs.declared.at_rule.AtRule.TheVariants as rules
 use Rattle.css_rules.specs.declared.refusal.Sought.TheVariants.{RevertLayerOrUrl}
+use Rattle.css_rules.specs.Heads.{import_refusals, import_rule_of, imports_in, items_in, refused_import}
+use Rattle.import_rules.specs.declared.import.ImportRule.{ImportRule}
+use Rattle.import_rules.specs.declared.import.ImportRule.TheVariants.{Read, Waiting, Unread}
+use Rattle.css_rules.proofs.HeadLemmas.{each-import, each-item}
 use Rattle.css_rules.specs.AtRules.{at_rule_of, behind_keyword, fits_prelude, grouped, keyword_in, with_block, without_block}
 use Rattle.css_rules.specs.NestedRules.{in_block}
-use Rattle.css_rules.proofs.NestedRules.{InBlocks, by_blocks, rules-refused}
+use Rattle.css_rules.proofs.NestedRules.{InBlocks, by_blocks, rules-refused, in-blocks}
 use Rattle.css_rules.proofs.Within.{is_early, is_within, early-each, within-all, pieces-early, head-within, inside-within, FaultWithin, fault-within}
 
 module _ (end : ℕ) where
@@ -188,6 +194,7 @@ module _ (end : ℕ) where
   abbrev HasPrelude : AtRule → Type 0
   HasPrelude (rules.Group condition) = Unit {0}
   HasPrelude (rules.PassedOn kind prelude) = all_within prelude ≡ true
+  HasPrelude rules.Import = Unit {0}
   HasPrelude rules.Waiting = Unit {0}
   HasPrelude rules.Unknown = Unit {0}
   HasPrelude rules.Unread = Unit {0}
@@ -204,14 +211,18 @@ module _ (end : ℕ) where
   block-prelude Media prelude h = grouped-prelude (option_map conditions.Media (queries_reading prelude))
   block-prelude Supports prelude h = grouped-prelude (option_map conditions.Supports (supports_reading prelude))
   block-prelude (PassedOn kind) prelude h = fitting-prelude (fits_prelude kind prelude) kind prelude h
-  block-prelude Waiting prelude h = tt
+  block-prelude Import prelude h = tt
+  block-prelude Charset prelude h = tt
+  block-prelude Layer prelude h = tt
   block-prelude Unknown prelude h = tt
 
   bare-prelude : (keyword : AtKeyword) → HasPrelude (without_block keyword)
   bare-prelude Media = tt
   bare-prelude Supports = tt
   bare-prelude (PassedOn kind) = tt
-  bare-prelude Waiting = tt
+  bare-prelude Import = tt
+  bare-prelude Charset = tt
+  bare-prelude Layer = tt
   bare-prelude Unknown = tt
 
   behind-within : (rule : List Component) → all_within rule ≡ true → all_within (behind_keyword rule) ≡ true
@@ -226,6 +237,7 @@ module _ (end : ℕ) where
   at-rule-within at (rules.Group condition) block inner h prelude within each = each
   at-rule-within at (rules.PassedOn kind prelude) block inner h before within each =
       each-append IsWithin (sought_in RevertLayerOrUrl prelude) (sought_in RevertLayerOrUrl block) (sought-within RevertLayerOrUrl prelude before) (sought-within RevertLayerOrUrl block within)
+  at-rule-within at rules.Import block inner h prelude within each = (h, tt)
   at-rule-within at rules.Waiting block inner h prelude within each = (h, tt)
   at-rule-within at rules.Unknown block inner h prelude within each = tt
   at-rule-within at rules.Unread block inner h prelude within each = (h, tt)
@@ -236,22 +248,22 @@ module _ (end : ℕ) where
 
   -- components within the text whose refusals stand within it
   abbrev StandWithin : List Component → Type 0
-  StandWithin cs = all_within cs ≡ true → AreWithin (sheet_refusals cs)
+  StandWithin cs = all_within cs ≡ true → AreWithin (rules_refusals cs)
 
   mark-block-within : (mark : Option Component) → MatchOption mark (Unit {0}) (λ c. is_within end c ≡ true) → all_within (block_of mark) ≡ true
   mark-block-within None h = refl
   mark-block-within (Some mark) h = inside-within end mark h
 
-  mark-rules-within : (mark : Option Component) → MatchOption mark (Unit {0}) (λ c. StandWithin (inside c)) → MatchOption mark (Unit {0}) (λ c. is_within end c ≡ true) → AreWithin (in_block refusing sheet_refusals mark)
+  mark-rules-within : (mark : Option Component) → MatchOption mark (Unit {0}) (λ c. StandWithin (inside c)) → MatchOption mark (Unit {0}) (λ c. is_within end c ≡ true) → AreWithin (in_block refusing rules_refusals mark)
   mark-rules-within None each h = tt
-  mark-rules-within (Some mark) each h = choice-within (is_braces mark) (sheet_refusals (inside mark)) [] (each (inside-within end mark h)) tt
+  mark-rules-within (Some mark) each h = choice-within (is_braces mark) (rules_refusals (inside mark)) [] (each (inside-within end mark h)) tt
 
   rule-within : (cut : Cut) → MatchOption cut.mark (Unit {0}) (λ c. StandWithin (inside c)) → IsPart (is_within end) is_braces cut → AreWithin (rule_refusals cut)
   rule-within cut each part =
       let rule = trimmed cut.front in
       let kept = all-trimmed (is_within end) cut.front part.kept in
       let at_rule = at_rule_of rule (ends_in_braces cut.mark) in
-      let inner = in_block refusing sheet_refusals cut.mark in
+      let inner = in_block refusing rules_refusals cut.mark in
       choice-within (begins_at_rule rule) (at_rule_refusals (first_place rule 0) at_rule (block_of cut.mark) inner) (style_refusals cut.front cut.mark)
       (at-rule-within (first_place rule 0) at_rule (block_of cut.mark) inner (start-within rule 0 kept (omega arith)) (told-prelude rule (ends_in_braces cut.mark) kept)
       (mark-block-within cut.mark part.closed) (mark-rules-within cut.mark each part.closed))
@@ -261,8 +273,8 @@ module _ (end : ℕ) where
   rules-within [] each h = tt
   rules-within (cut ∷ cs) each h = each-append IsWithin (rule_refusals cut) (flat_map rule_refusals cs) (rule-within cut each.0 h.0) (rules-within cs each.1 h.1)
 
-  sheet-within : (cs : List Component) → StandWithin cs
-  sheet-within cs =
+  blocks-within : (cs : List Component) → StandWithin cs
+  blocks-within cs =
       by_blocks StandWithin
       (λ cs each h.
       subst AreWithin (sym (rules-refused cs))
@@ -290,8 +302,31 @@ module _ (end : ℕ) where
   first-within [] h = tt
   first-within (r ∷ rs) h = sooner_of-within r (first_refusal rs) h.0 (first-within rs h.1)
 
+  -- Sheets.
+
+  import-within : (at : ℕ) (rule : ImportRule) → at ≤ end → AreWithin (refused_import at rule)
+  import-within at (Read i) h = tt
+  import-within at Waiting h = (h, tt)
+  import-within at Unread h = (h, tt)
+
+  imports-within : (cs : List Cut) → AllByRecursion (IsPart (is_within end) is_braces) cs → AreWithin (flat_map import_refusals cs)
+  imports-within [] h = tt
+  imports-within (cut ∷ cs) h =
+      let kept = all-trimmed (is_within end) cut.front h.0.kept in
+      each-append IsWithin (import_refusals cut) (flat_map import_refusals cs)
+      (import-within (first_place (trimmed cut.front) 0) (import_rule_of cut) (start-within (trimmed cut.front) 0 kept (omega arith)))
+      (imports-within cs h.1)
+
+  whole-within : (cs : List Component) → all_within cs ≡ true → AreWithin (sheet_refusals cs)
+  whole-within cs h =
+      let rules = cuts ends_rule cs in
+      let parts = parts-cuts (is_within end) is_braces ends_rule (λ before c s. ap (λ b. b || (is_semicolon c && begins_at_rule (trimmed_start before))) s) [] cs h in
+      each-append IsWithin (flat_map import_refusals (imports_in rules)) (flat_map rule_refusals (items_in rules))
+      (imports-within (imports_in rules) (each-import (IsPart (is_within end) is_braces) rules parts))
+      (rules-within (items_in rules) (in-blocks StandWithin blocks-within (items_in rules)) (each-item (IsPart (is_within end) is_braces) rules parts))
+
 pub refusals-within : (cs : List Component) (end : ℕ) → AllByRecursion (λ (p : Piece). p.at ≤ end) (pieces_all cs) → AllByRecursion (λ (r : Refusal). r.at ≤ end) (sheet_refusals cs)
-refusals-within cs end h = sheet-within end cs (within-all end cs (early-each end (pieces_all cs) h))
+refusals-within cs end h = whole-within end cs (within-all end cs (early-each end (pieces_all cs) h))
 
 pub first_refusal-within : (cs : List Component) (end : ℕ) (r : Refusal) → AllByRecursion (λ (p : Piece). p.at ≤ end) (pieces_all cs) → first_refusal (sheet_refusals cs) ≡ Some r → r.at ≤ end
 first_refusal-within cs end r h e = subst (λ o. MatchOption o (Unit {0}) (λ q. q.at ≤ end)) e (first-within end (sheet_refusals cs) (refusals-within cs end h))

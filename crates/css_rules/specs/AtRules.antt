@@ -13,13 +13,13 @@ use Rattle.sheet_types.specs.declared.sheet.PassedKind.{PassedKind}
 use Rattle.sheet_types.specs.declared.sheet.PassedKind.TheVariants.{FontFace, Keyframes, WebkitKeyframes, MozKeyframes, Page, CounterStyle}
 use Rattle.sheet_types.specs.PassedRules.{keyword_of}
 use Rattle.css_rules.specs.declared.at_rule.AtKeyword.{AtKeyword}
-use Rattle.css_rules.specs.declared.at_rule.AtKeyword.TheVariants.{Media, Supports, PassedOn, Waiting, Unknown}
+use Rattle.css_rules.specs.declared.at_rule.AtKeyword.TheVariants.{Media, Supports, PassedOn, Import, Charset, Layer, Unknown}
 use Rattle.css_rules.specs.declared.at_rule.AtRule.{AtRule}
 use Rattle.css_rules.specs.declared.at_rule.AtRule.TheVariants as rules
-use Rattle.css_rules.specs.Components.{head, is_ident, is_string, name_of}
-use Rattle.css_rules.specs.Cuts.{trimmed}
+use Rattle.css_components.specs.Components.{head, is_ident, is_string, name_of}
+use Rattle.css_components.specs.Trimming.{trimmed}
 
--- The at-keyword of this name, which is in lower case. `@import`, `@charset` and `@layer` wait for later stages.
+-- the at-keyword of this name, which is in lower case
 abbrev pub keyword_named : List ℕ → AtKeyword
 keyword_named name =
     if is_text name (codes "media") then Media
@@ -30,7 +30,9 @@ keyword_named name =
     else if is_text name (keyword_of MozKeyframes) then PassedOn MozKeyframes
     else if is_text name (keyword_of Page) then PassedOn Page
     else if is_text name (keyword_of CounterStyle) then PassedOn CounterStyle
-    else if is_text name (codes "import") || (is_text name (codes "charset") || is_text name (codes "layer")) then Waiting
+    else if is_text name (codes "import") then Import
+    else if is_text name (codes "charset") then Charset
+    else if is_text name (codes "layer") then Layer
     else Unknown
 
 -- the at-keyword that an at-rule begins with
@@ -63,12 +65,14 @@ abbrev pub grouped : Option GroupCondition → AtRule
 grouped None = rules.Unread
 grouped (Some condition) = rules.Group condition
 
--- the at-rule of this keyword, with this between the keyword and its block
+-- The at-rule of this keyword, with this between the keyword and its block. An import stands here too late, and `@charset` is a rule of another name.
 abbrev pub with_block : AtKeyword → List Component → AtRule
 with_block Media prelude = grouped (option_map conditions.Media (queries_reading prelude))
 with_block Supports prelude = grouped (option_map conditions.Supports (supports_reading prelude))
 with_block (PassedOn kind) prelude = if fits_prelude kind prelude then rules.PassedOn kind prelude else rules.Unread
-with_block Waiting prelude = rules.Waiting
+with_block Import prelude = rules.Import
+with_block Charset prelude = rules.Unknown
+with_block Layer prelude = rules.Waiting
 with_block Unknown prelude = rules.Unknown
 
 -- The same where no block ends it. Groups and rules that are passed on have a block.
@@ -76,7 +80,9 @@ abbrev pub without_block : AtKeyword → AtRule
 without_block Media = rules.Unread
 without_block Supports = rules.Unread
 without_block (PassedOn kind) = rules.Unread
-without_block Waiting = rules.Waiting
+without_block Import = rules.Import
+without_block Charset = rules.Unknown
+without_block Layer = rules.Waiting
 without_block Unknown = rules.Unknown
 
 -- the at-rule that begins with these components; does a block end it?

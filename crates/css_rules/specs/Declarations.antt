@@ -5,8 +5,9 @@ use Rattle.std.specs.Str.{str_to_ascii_lowercase}
 use Rattle.css_tokens.specs.declared.component.Component.{Component}
 use Rattle.css_tokens.specs.Piece.{Piece}
 use Rattle.sheet_types.specs.declared.sheet.Declaration.{Declaration}
-use Rattle.css_rules.specs.Components.{head, name_of, is_ident, is_colon, is_bang, is_braces, is_custom, is_keyword}
-use Rattle.css_rules.specs.Cuts.{Cut, cuts_at, trimmed, trimmed_start}
+use Rattle.css_components.specs.Components.{head, name_of, is_ident, is_colon, is_bang, is_braces, is_custom, is_keyword}
+use Rattle.css_components.specs.Trimming.{trimmed, trimmed_start}
+use Rattle.css_rules.specs.Cuts.{Cut, cuts_at}
 
 -- a custom property keeps its name, any other is in lower case
 abbrev pub property_name : List ℕ → List ℕ

@@ -1,10 +1,11 @@
-pub mod Components
 pub mod Cuts
 pub mod Declarations
 pub mod RuleEnds
 pub mod NestedRules
 pub mod AtRules
 pub mod Refusals
+pub mod Places
+pub mod Heads
 pub mod ReadAll
 pub mod Sheets
 pub mod SheetBuilding

@@ -2,7 +2,7 @@
 use Rattle.std.specs.Prelude.{ℕ, zero, suc, List, [], map, length, Option, Some, None, if◌then◌else◌}
 use Rattle.css_tokens.specs.declared.component.Component.{Component}
 use Rattle.css_tokens.specs.Trees.{pieces_all}
-use Rattle.css_rules.specs.Components.{inside, is_braces}
+use Rattle.css_components.specs.Components.{inside, is_braces}
 use Rattle.css_rules.specs.Cuts.{Cut, cuts}
 use Rattle.css_rules.specs.RuleEnds.{ends_rule}
 

@@ -15,7 +15,7 @@ use Rattle.media_tree.specs.ReadValues.{ValuesStand}
 use Rattle.media_tree.specs.SupportsAgain.{is_readable_supports}
 use Rattle.css_rules.specs.declared.refusal.Sought.TheVariants.{RevertLayerOrUrl}
 use Rattle.css_rules.specs.AtRules.{fits_prelude}
-use Rattle.css_rules.specs.Components.{is_bang, is_braces, is_semicolon, is_custom, is_gap}
+use Rattle.css_components.specs.Components.{is_bang, is_braces, is_semicolon, is_custom, is_gap}
 use Rattle.css_rules.specs.Declarations.{property_name, may_be_value}
 use Rattle.media_spelling.specs.SupportsAgain.{has_no_function}
 use Rattle.sheet_types.specs.declared.sheet.GroupCondition.{GroupCondition}

@@ -4,3 +4,5 @@ pub mod Waiting
 pub mod Faults
 pub mod Starts
 pub mod Spans
+pub mod Roles
+pub mod Adding

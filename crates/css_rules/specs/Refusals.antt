@@ -9,11 +9,11 @@ use Rattle.css_tokens.specs.Names.{name_of_word}
 use Rattle.css_tokens.specs.Trees.{pieces_all, is_text}
 use Rattle.selector_tree.specs.Signs.{is_comment_kind}
 use Rattle.css_rules.specs.declared.refusal.Cause.{Cause}
-use Rattle.css_rules.specs.declared.refusal.Cause.TheVariants.{Syntax, Unbuilt}
+use Rattle.css_rules.specs.declared.refusal.Cause.TheVariants.{Unbuilt, LateImport, Syntax}
 use Rattle.css_rules.specs.declared.refusal.Refusal.{Refusal}
 use Rattle.css_rules.specs.declared.refusal.Sought.{Sought}
 use Rattle.css_rules.specs.declared.refusal.Sought.TheVariants.{RevertLayer, RevertLayerOrUrl}
-use Rattle.css_rules.specs.Components.{is_colon_kind, is_custom, is_keyword}
+use Rattle.css_components.specs.Components.{is_colon_kind, is_custom, is_keyword}
 
 -- it cannot be read, at this place
 abbrev pub syntax : ℕ → Refusal
@@ -23,10 +23,15 @@ syntax at = record { at = at; cause = Syntax }
 abbrev pub unbuilt : ℕ → Refusal
 unbuilt at = record { at = at; cause = Unbuilt }
 
--- The order of causes. Of two at one place the lower is named: what is not built yet, and then what cannot be read.
+-- it is an import that stands too late, at this place
+abbrev pub late_import : ℕ → Refusal
+late_import at = record { at = at; cause = LateImport }
+
+-- The order of causes. Of two at one place the lower is named: what is not built yet, then an import that stands too late, and then what cannot be read.
 abbrev pub rank : Cause → ℕ
 rank Unbuilt = 0
-rank Syntax = 1
+rank LateImport = 1
+rank Syntax = 2
 
 -- The order of refusals: by place, and at one place by cause.
 abbrev pub leads : Refusal → Refusal → Bool

@@ -8,21 +8,25 @@ use Rattle.selector_types.specs.declared.selector.Selector.{Selector}
 use Rattle.selector_tree.specs.Signs.{list_in, list_reading, mark_of}
 use Rattle.sheet_types.specs.declared.sheet.Declaration.{Declaration}
 use Rattle.sheet_types.specs.Runs.{run_of}
+use Rattle.sheet_types.specs.declared.sheet.Import.{Import}
 use Rattle.sheet_types.specs.declared.sheet.Item.{Item, Style, Group, Passed, Other}
 use Rattle.sheet_types.specs.declared.sheet.Sheet.{Sheet}
 use Rattle.css_rules.specs.declared.reader.RuleFault.{RuleFault}
 use Rattle.css_rules.specs.declared.reader.RuleFault.TheVariants as faults
-use Rattle.css_rules.specs.Components.{place_of, inside}
-use Rattle.css_rules.specs.Cuts.{Cut, cuts, trimmed}
+use Rattle.css_components.specs.Components.{place_of, inside}
+use Rattle.css_components.specs.Trimming.{trimmed}
+use Rattle.css_rules.specs.Cuts.{Cut, cuts}
 use Rattle.css_rules.specs.Declarations.{declaration_of}
 use Rattle.css_rules.specs.declared.at_rule.AtRule.{AtRule}
 use Rattle.css_rules.specs.declared.at_rule.AtRule.TheVariants as rules
 use Rattle.css_rules.specs.declared.refusal.Sought.TheVariants.{RevertLayerOrUrl}
 use Rattle.css_rules.specs.AtRules.{at_rule_of}
+use Rattle.css_rules.specs.Heads.{import_of, import_refusals, imports_in, items_in}
 use Rattle.css_rules.specs.NestedRules.{Making, in_block, made}
+use Rattle.css_rules.specs.Places.{first_place}
 use Rattle.css_rules.specs.ReadAll.{read_all}
-use Rattle.css_rules.specs.RuleEnds.{begins_at_rule, block_of, ends_in_braces, ends_item}
-use Rattle.css_rules.specs.Refusals.{syntax, unbuilt, leads, has_sought, has_waiting, sought_for, sought_in, waiting_in, is_unbuilt_property}
+use Rattle.css_rules.specs.RuleEnds.{begins_at_rule, block_of, ends_in_braces, ends_item, ends_rule}
+use Rattle.css_rules.specs.Refusals.{syntax, late_import, unbuilt, leads, has_sought, has_waiting, sought_for, sought_in, waiting_in, is_unbuilt_property}
 
 -- Blocks.
 
@@ -64,11 +68,6 @@ style_with at None declarations = None
 style_with at (Some selectors) None = None
 style_with at (Some selectors) (Some declarations) = Some (Style (record { selectors = selectors; items = run_of declarations; at = at }) ∷ [])
 
--- the place of the first of these components, or the other place where there are none
-abbrev pub first_place : List Component → ℕ → ℕ
-first_place [] otherwise = otherwise
-first_place (c ∷ cs) otherwise = place_of c
-
 -- What no block follows is no rule, but for nothing at all.
 abbrev pub leftover : List Component → Option (List Item)
 leftover [] = Some []
@@ -79,12 +78,13 @@ abbrev pub style_of : List Component → Option Component → Option (List Item)
 style_of prelude None = leftover (trimmed prelude)
 style_of prelude (Some block) = style_with (first_place (trimmed prelude) (place_of block)) (prelude_of prelude) (declarations_of (inside block))
 
--- The items of an at-rule at this place, of this block, in which rules are read as these items. A group has them. A rule that is passed on has no reading yet with a Url or `revert-layer` in it, and what waits for a later stage has none.
+-- The items of an at-rule at this place, of this block, in which rules are read as these items. A group has them. A rule that is passed on has no reading yet with a Url or `revert-layer` in it, and none has an import, which stands here too late, or what waits for a later stage.
 abbrev pub at_rule_items : ℕ → AtRule → List Component → Option (List Item) → Option (List Item)
 at_rule_items at (rules.Group condition) block inner = option_map (λ items. Group (record { condition = condition; items = items; at = at }) ∷ []) inner
 at_rule_items at (rules.PassedOn kind prelude) block inner =
     if has_sought RevertLayerOrUrl prelude || has_sought RevertLayerOrUrl block then None
     else Some (Passed (record { kind = kind; prelude = prelude; block = block; at = at }) ∷ [])
+at_rule_items at rules.Import block inner = None
 at_rule_items at rules.Waiting block inner = None
 at_rule_items at rules.Unknown block inner = Some (Other at ∷ [])
 at_rule_items at rules.Unread block inner = None
@@ -108,9 +108,15 @@ rules_of cs = made reading cs
 abbrev pub rule_of : Cut → Option (List Item)
 rule_of cut = rule_with cut (in_block reading rules_of cut.mark)
 
+-- the sheet of these imports and these items, where there are both
+abbrev pub sheet_with : Option (List Import) → Option (List Item) → Option Sheet
+sheet_with None items = None
+sheet_with (Some imports) None = None
+sheet_with (Some imports) (Some items) = Some (record { imports = imports; items = items })
+
 -- the sheet that the components spell, if they spell one
 abbrev pub sheet_of : List Component → Option Sheet
-sheet_of cs = option_map (λ items. record { items = items }) (rules_of cs)
+sheet_of cs = sheet_with (read_all import_of (imports_in (cuts ends_rule cs))) (read_all rule_of (items_in (cuts ends_rule cs)))
 
 -- Refusals.
 
@@ -156,10 +162,11 @@ abbrev pub style_refusals : List Component → Option Component → List Refusal
 style_refusals prelude None = leftover_refusals (trimmed prelude)
 style_refusals prelude (Some block) = prelude_refusals prelude (place_of block) ++ block_refusals (inside block)
 
--- What an at-rule at this place is refused for, of this block, in which the rules are refused for these: a group for what stands in it, a rule that is passed on for a Url or `revert-layer` in it, any other where it waits for a later stage or cannot be read.
+-- What an at-rule at this place is refused for, of this block, in which the rules are refused for these: a group for what stands in it, a rule that is passed on for a Url or `revert-layer` in it, any other where it is an import, waits for a later stage or cannot be read.
 abbrev pub at_rule_refusals : ℕ → AtRule → List Component → List Refusal → List Refusal
 at_rule_refusals at (rules.Group condition) block inner = inner
 at_rule_refusals at (rules.PassedOn kind prelude) block inner = sought_in RevertLayerOrUrl prelude ++ sought_in RevertLayerOrUrl block
+at_rule_refusals at rules.Import block inner = late_import at ∷ []
 at_rule_refusals at rules.Waiting block inner = unbuilt at ∷ []
 at_rule_refusals at rules.Unknown block inner = []
 at_rule_refusals at rules.Unread block inner = syntax at ∷ []
@@ -175,18 +182,27 @@ refusals_with cut inner =
 abbrev pub refusing : Making (List Refusal)
 refusing = record { of_rule = refusals_with; of_all = flat_map (λ refusals. refusals) }
 
--- what a sheet is refused for, rule by rule
-abbrev pub sheet_refusals : List Component → List Refusal
-sheet_refusals cs = made refusing cs
+-- what rules are refused for
+abbrev pub rules_refusals : List Component → List Refusal
+rules_refusals cs = made refusing cs
 
 -- what a rule is refused for
 abbrev pub rule_refusals : Cut → List Refusal
-rule_refusals cut = refusals_with cut (in_block refusing sheet_refusals cut.mark)
+rule_refusals cut = refusals_with cut (in_block refusing rules_refusals cut.mark)
+
+-- what rules at the top of a sheet are refused for, in its imports and in its items
+abbrev pub cut_refusals : List Cut → List Refusal
+cut_refusals rules = flat_map import_refusals (imports_in rules) ++ flat_map rule_refusals (items_in rules)
+
+-- what a sheet is refused for
+abbrev pub sheet_refusals : List Component → List Refusal
+sheet_refusals cs = cut_refusals (cuts ends_rule cs)
 
 -- a fault names this refusal, unless memory ran out
 abbrev pub IsNamed : RuleFault → Option Refusal → Type 0
 IsNamed (faults.Syntax at) refusal = refusal ≡ Some (syntax at)
 IsNamed (faults.Unbuilt at) refusal = refusal ≡ Some (unbuilt at)
+IsNamed (faults.LateImport at) refusal = refusal ≡ Some (late_import at)
 IsNamed faults.Memory refusal = Unit {0}
 
 -- the refusal is one of these, and none of them stands before it, nor at its place for a cause that is named rather
@@ -197,4 +213,5 @@ IsFirst refusal refusals = Contains refusals refusal × AllByRecursion (λ other
 abbrev pub IsLeast : RuleFault → List Refusal → Type 0
 IsLeast (faults.Syntax at) refusals = IsFirst (syntax at) refusals
 IsLeast (faults.Unbuilt at) refusals = IsFirst (unbuilt at) refusals
+IsLeast (faults.LateImport at) refusals = IsFirst (late_import at) refusals
 IsLeast faults.Memory refusals = Unit {0}

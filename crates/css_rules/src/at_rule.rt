@@ -3,16 +3,14 @@
 ghost use Rattle.std.specs.Prelude.{◌≡◌, ◌||◌, IfOk, IsTrue, Option};
 ghost use Rattle.std.specs.Option.{option_map};
 ghost use Rattle.css_rules.specs.AtRules.{at_rule_of, behind_keyword, fits_prelude, grouped, is_one, keyword_in, keyword_named, with_block, without_block};
-ghost use Rattle.css_rules.specs.Components.{is_ident, is_string};
+ghost use Rattle.css_components.specs.Components.{is_ident, is_string};
 ghost use Rattle.css_rules.specs.RuleEnds.{begins_at_rule};
 ghost use Rattle.media_tree.specs.Queries.{queries_reading};
 ghost use Rattle.media_tree.specs.SupportsReading.{supports_reading};
 ghost use Rattle.sheet_types.specs.declared.sheet.GroupCondition.TheVariants as conditions;
 
-use crate::cuts::trimmed;
-use crate::declaration::is_ident;
-use crate::parts::{head_of, is_token};
-use css_tokens::{Component, Kind, List, OutOfMemory, name_of};
+use css_components::{copied, head_of, is_ident, is_string, trimmed};
+use css_tokens::{Component, List, OutOfMemory, name_of};
 use media_tree::{MediaFault, read_queries, read_supports};
 use sheet_types::{GroupCondition, PassedKind};
 use std::alloc::Global;
@@ -24,8 +22,10 @@ pub enum AtKeyword {
     Supports,
     /// That of a rule that is passed on.
     PassedOn(PassedKind),
-    /// That of a rule that waits for a later stage: `@import`, `@charset` or `@layer`.
-    Waiting,
+    Import,
+    Charset,
+    /// It waits for a later stage.
+    Layer,
     /// Any other.
     Unknown,
 }
@@ -37,6 +37,8 @@ pub enum AtRule<'a> {
     Group(GroupCondition<'a>),
     /// A rule that is passed on, and what stands between its keyword and its block.
     PassedOn(PassedKind, List<Component<'a>>),
+    /// An import, which stands here too late.
+    Import,
     /// A rule that waits for a later stage.
     Waiting,
     /// A rule of another name.
@@ -59,14 +61,16 @@ impl AtKeyword {
             "-moz-keyframes" => AtKeyword::PassedOn(PassedKind::MozKeyframes),
             "page" => AtKeyword::PassedOn(PassedKind::Page),
             "counter-style" => AtKeyword::PassedOn(PassedKind::CounterStyle),
-            "import" | "charset" | "layer" => AtKeyword::Waiting,
+            "import" => AtKeyword::Import,
+            "charset" => AtKeyword::Charset,
+            "layer" => AtKeyword::Layer,
             _ => AtKeyword::Unknown,
         }
     }
 }
 
 /// The at-keyword that an at-rule begins with.
-fn keyword_in(alloc: Global, rule: &[Component]) -> Result<AtKeyword, OutOfMemory>
+pub fn keyword_in(alloc: Global, rule: &[Component]) -> Result<AtKeyword, OutOfMemory>
     requires { IsTrue (begins_at_rule rule.now) }
     ensures { IfOk result (λ keyword. keyword ≡ keyword_in rule.now) }
 {
@@ -79,20 +83,13 @@ fn keyword_in(alloc: Global, rule: &[Component]) -> Result<AtKeyword, OutOfMemor
 }
 
 /// What stands behind the keyword that an at-rule begins with.
-fn behind_keyword<'s, 'a>(rule: &'s [Component<'a>]) -> &'s [Component<'a>]
+pub fn behind_keyword<'s, 'a>(rule: &'s [Component<'a>]) -> &'s [Component<'a>]
     ensures { result.now ≡ behind_keyword rule.now }
 {
     match rule {
         [_, rest @ ..] => trimmed(rest),
         [] => rule,
     }
-}
-
-/// Whether it is a string.
-fn is_string(component: &Component) -> bool
-    ensures { result ≡ is_string component.now }
-{
-    is_token(component) && matches!(head_of(component).kind, Kind::String)
 }
 
 /// Whether the components are one identifier or string.
@@ -126,20 +123,6 @@ fn fits_prelude(kind: PassedKind, prelude: &[Component]) -> bool
         }
         PassedKind::CounterStyle => is_one_ident(prelude),
     }
-}
-
-/// The components once more.
-pub fn copied<'a>(
-    alloc: Global,
-    components: &[Component<'a>],
-) -> Result<List<Component<'a>>, OutOfMemory>
-    ensures { IfOk result (λ copy. copy ≡ components.now) }
-{
-    let mut copy = List::with_capacity(alloc, components.len())?;
-    for component in components {
-        copy.push(component.copy(alloc)?)?;
-    }
-    Ok(copy)
 }
 
 /// The group under this media query list, where it is one.
@@ -179,8 +162,9 @@ fn with_block<'a>(
             Ok(AtRule::PassedOn(kind, copied(alloc, prelude)?))
         }
         AtKeyword::PassedOn(_) => Ok(AtRule::Unread),
-        AtKeyword::Waiting => Ok(AtRule::Waiting),
-        AtKeyword::Unknown => Ok(AtRule::Unknown),
+        AtKeyword::Import => Ok(AtRule::Import),
+        AtKeyword::Layer => Ok(AtRule::Waiting),
+        AtKeyword::Charset | AtKeyword::Unknown => Ok(AtRule::Unknown),
     }
 }
 
@@ -190,8 +174,9 @@ fn without_block<'a>(keyword: AtKeyword) -> AtRule<'a>
 {
     match keyword {
         AtKeyword::Media | AtKeyword::Supports | AtKeyword::PassedOn(_) => AtRule::Unread,
-        AtKeyword::Waiting => AtRule::Waiting,
-        AtKeyword::Unknown => AtRule::Unknown,
+        AtKeyword::Import => AtRule::Import,
+        AtKeyword::Layer => AtRule::Waiting,
+        AtKeyword::Charset | AtKeyword::Unknown => AtRule::Unknown,
     }
 }
 

@@ -1,15 +1,16 @@
-//! Lists of components cut at marks, and without white space and comments at their ends.
+//! Lists of components cut at marks, and the places of what they hold between white space and comments.
 
 ghost use Rattle.std.specs.Prelude.{◌≡◌, ◌≤◌, ◌+◌, ◌∷◌, [], IfOk, length, drop, slice_get, slice_range, MatchOption};
 ghost use Rattle.std.specs.Option.{option_copied};
-ghost use Rattle.css_rules.specs.Components.{is_semicolon};
-ghost use Rattle.css_rules.specs.Cuts.{trimmed, trimmed_start, trimmed_end};
+ghost use Rattle.css_components.specs.Components.{is_semicolon};
+ghost use Rattle.css_components.specs.Trimming.{trimmed, trimmed_start, trimmed_end};
 ghost use Rattle.css_rules.specs.Private.Marks.{EndsAt, IsFirstMark, is_mark};
 ghost use Rattle.css_rules.specs.Private.Spans.{IsWithin, at_span};
 ghost use Rattle.css_rules.specs.RuleEnds.{ends_item, ends_rule};
 
 use crate::declaration::begins_custom;
-use crate::parts::{begins_at_rule, head_of, is_braces, is_gap, is_token};
+use crate::parts::begins_at_rule;
+use css_components::{head_of, is_braces, is_semicolon, is_token, trimmed_end, trimmed_start};
 use css_tokens::{Component, Kind, OutOfMemory};
 use std::alloc::Global;
 
@@ -23,13 +24,6 @@ pub enum Mark {
     BracesOrSemicolon,
     /// A `!` that stands alone.
     Bang,
-}
-
-/// Whether it is a semicolon.
-pub fn is_semicolon(component: &Component) -> bool
-    ensures { result ≡ is_semicolon component.now }
-{
-    is_token(component) && matches!(head_of(component).kind, Kind::Semicolon)
 }
 
 impl Mark {
@@ -84,34 +78,6 @@ pub fn end_of_cut(components: &[Component], from: usize, mark: Mark) -> usize
         to += 1;
     }
     to
-}
-
-/// The components without white space and comments at the start.
-pub fn trimmed_start<'s, 'a>(components: &'s [Component<'a>]) -> &'s [Component<'a>]
-    ensures { result.now ≡ trimmed_start components.now }
-{
-    let mut from = 0;
-    while from < components.len() && is_gap(&components[from]) {
-        from += 1;
-    }
-    &components[from..]
-}
-
-fn trimmed_end<'s, 'a>(components: &'s [Component<'a>]) -> &'s [Component<'a>]
-    ensures { result.now ≡ trimmed_end components.now }
-{
-    let mut to = components.len();
-    while to > 0 && is_gap(&components[to - 1]) {
-        to -= 1;
-    }
-    &components[..to]
-}
-
-/// The components without white space and comments at both ends.
-pub fn trimmed<'s, 'a>(components: &'s [Component<'a>]) -> &'s [Component<'a>]
-    ensures { result.now ≡ trimmed components.now }
-{
-    trimmed_end(trimmed_start(components))
 }
 
 /// The places of a list from one on and before another.

@@ -4,23 +4,18 @@ ghost use Rattle.std.specs.Prelude.{◌≡◌, ◌∷◌, [], ◌&&◌, ◌+◌,
 ghost use Rattle.std.specs.List.{list_any};
 ghost use Rattle.std.specs.Char.{is_ascii_uppercase};
 ghost use Rattle.std.specs.Option.{option_map};
-ghost use Rattle.css_rules.specs.Components.{is_ident, is_ident_kind, is_colon, is_custom, is_bang, name_of};
+ghost use Rattle.css_components.specs.Components.{is_ident, is_ident_kind, is_colon, is_custom, is_bang, name_of};
 ghost use Rattle.css_rules.specs.Cuts.{cuts_at};
 ghost use Rattle.css_rules.specs.Declarations.{property_name, after_colon, is_important, may_be_value, value_of, declared, declaration_of, begins_custom};
 ghost use Rattle.css_rules.specs.Private.Spans.{IsWithin, StandsLast, at_span, behind, declared_in};
 
-use crate::cuts::{Mark, Span, end_of_cut, trimmed, trimmed_span, trimmed_start};
-use crate::parts::{head_of, is_block_in, is_keyword, is_token};
+use crate::cuts::{Mark, Span, end_of_cut, trimmed_span};
+use css_components::{
+    head_of, is_block_in, is_ident, is_keyword, is_token, trimmed, trimmed_start,
+};
 use css_tokens::{Component, Kind, OutOfMemory, Text, Token, name_of};
 use sheet_types::Declaration;
 use std::alloc::Global;
-
-/// Whether it is an identifier.
-pub fn is_ident(component: &Component) -> bool
-    ensures { result ≡ is_ident component.now }
-{
-    is_token(component) && matches!(head_of(component).kind, Kind::Ident)
-}
 
 fn is_colon(component: &Component) -> bool
     ensures { result ≡ is_colon component.now }

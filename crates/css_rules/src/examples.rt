@@ -2,20 +2,24 @@
 
 ghost use Rattle.std.specs.Prelude.{◌≡◌, [], ◌∷◌, true, false, Some, None, codes};
 ghost use Rattle.css_rules.specs.Declarations.{may_be_value, property_name};
-ghost use Rattle.css_rules.specs.Components.{is_custom, is_keyword};
-ghost use Rattle.css_rules.specs.Refusals.{first_refusal, syntax, unbuilt, is_ampersand, is_is, is_revert_layer, is_unbuilt_property, is_url};
+ghost use Rattle.css_components.specs.Components.{is_custom, is_keyword};
+ghost use Rattle.css_rules.specs.Refusals.{first_refusal, late_import, syntax, unbuilt, is_ampersand, is_is, is_revert_layer, is_unbuilt_property, is_url};
 ghost use Rattle.css_tokens.specs.declared.kind.Kind.TheVariants.{Delim, Function, Ident, Url};
 
 pub mod at_rules;
 pub mod cuts;
+pub mod heads;
 pub mod sheets;
 
-/// Which of several refusals is named: the one at the least place, and of two at one place what is not built yet.
+/// Which of several refusals is named: the one at the least place, and of two at one place what is not built yet, and then an
+/// import that stands too late.
 pub fn refusals_are_named()
     ensures none { first_refusal [] ≡ None }
     ensures least { first_refusal (syntax 5 ∷ unbuilt 3 ∷ syntax 4 ∷ []) ≡ Some (unbuilt 3) }
     ensures least_of_a_kind { first_refusal (syntax 5 ∷ syntax 2 ∷ syntax 4 ∷ []) ≡ Some (syntax 2) }
     ensures at_one_place { first_refusal (syntax 3 ∷ unbuilt 3 ∷ []) ≡ Some (unbuilt 3) }
+    ensures late_before_unread { first_refusal (syntax 3 ∷ late_import 3 ∷ []) ≡ Some (late_import 3) }
+    ensures unbuilt_before_late { first_refusal (late_import 3 ∷ unbuilt 3 ∷ []) ≡ Some (unbuilt 3) }
     ensures at_one_place_the_other_way_round { first_refusal (unbuilt 3 ∷ syntax 3 ∷ []) ≡ Some (unbuilt 3) }
 {}
 

@@ -1,4 +1,4 @@
-ghost use Rattle.css_rules.specs.Components.{head};
+ghost use Rattle.css_components.specs.Components.{head};
 ghost use Rattle.css_rules.specs.Refusals.{first_refusal, leads};
 ghost use Rattle.css_rules.specs.SelectorFaults.{list_faults};
 ghost use Rattle.css_rules.specs.declared.refusal.Refusal.{Refusal};

@@ -1,89 +1,10 @@
-//! Tests of components that the readers share.
+//! Tests of rules that the readers share.
 
-ghost use Rattle.std.specs.Prelude.{◌≡◌, IsTrue, IfOk};
-ghost use Rattle.std.specs.List.{list_any};
-ghost use Rattle.std.specs.Str.{str_to_ascii_lowercase};
-ghost use Rattle.css_rules.specs.Components.{head, is_at_keyword, is_braces, is_comma, is_gap, is_keyword, is_single, name_of, place_of};
+ghost use Rattle.std.specs.Prelude.{◌≡◌};
 ghost use Rattle.css_rules.specs.RuleEnds.{begins_at_rule};
-ghost use Rattle.css_tokens.specs.Names.{has_name};
 
-use css_tokens::{Component, Kind, OutOfMemory, Token, is_gap as is_gap_kind, name_of};
-use std::alloc::Global;
-
-/// The first token of a component.
-pub fn head_of<'s, 'a>(component: &'s Component<'a>) -> &'s Token<'a>
-    ensures { result.now ≡ head component.now }
-{
-    match component {
-        Component::Single(token) => token,
-        Component::Block(block) => &block.get().opening,
-    }
-}
-
-/// Whether it is a token alone.
-pub fn is_token(component: &Component) -> bool
-    ensures { result ≡ is_single component.now }
-{
-    match component {
-        Component::Single(_) => true,
-        Component::Block(_) => false,
-    }
-}
-
-/// How many bytes of the source stand before a component.
-pub fn place_of(component: &Component) -> u32
-    ensures { result ≡ place_of component.now }
-{
-    head_of(component).at
-}
-
-/// Whether it is white space or a comment.
-pub fn is_gap(component: &Component) -> bool
-    ensures { result ≡ is_gap component.now }
-{
-    is_token(component) && is_gap_kind(head_of(component).kind)
-}
-
-/// Whether it is a comma.
-pub fn is_comma(component: &Component) -> bool
-    ensures { result ≡ is_comma component.now }
-{
-    is_token(component) && matches!(head_of(component).kind, Kind::Comma)
-}
-
-/// Whether the name of a token is a keyword, which is given in lower case, in any case of letters.
-pub fn is_keyword(alloc: Global, token: &Token, keyword: &str) -> Result<bool, OutOfMemory>
-    requires named { IsTrue (has_name token.now.kind) }
-    requires lower { str_to_ascii_lowercase keyword.now ≡ keyword.now }
-    ensures { IfOk result (λ is. is ≡ is_keyword keyword.now (name_of token.now)) }
-{
-    Ok(
-        name_of(alloc, token)?
-            .as_str()
-            .eq_ignore_ascii_case(keyword),
-    )
-}
-
-/// Whether a `{}` block stands among the components.
-pub fn is_block_in(components: &[Component]) -> bool
-    ensures { result ≡ list_any is_braces components.now }
-{
-    components.iter().any(is_braces)
-}
-
-/// Whether it is a `{}` block.
-pub fn is_braces(component: &Component) -> bool
-    ensures { result ≡ is_braces component.now }
-{
-    !is_token(component) && matches!(head_of(component).text.as_bytes(), [b'{'])
-}
-
-/// Whether it is an at-keyword.
-pub fn is_at_keyword(component: &Component) -> bool
-    ensures { result ≡ is_at_keyword component.now }
-{
-    is_token(component) && matches!(head_of(component).kind, Kind::At)
-}
+use css_components::is_at_keyword;
+use css_tokens::Component;
 
 /// Whether the components begin with an at-keyword.
 pub fn begins_at_rule(components: &[Component]) -> bool

@@ -12,6 +12,7 @@ pub fn places_do_not_matter()
     ensures { (a b : List Component) → words_all a ≡ words_all b → IsTrue (all_formed a) → IsTrue (all_formed b) → option_map bare_sheet (sheet_of a) ≡ option_map bare_sheet (sheet_of b) }
 {
     css_tokens::one_pairing();
+    import_rules::places_of_imports_are_not_read();
     media_tree::places_of_queries_are_not_read();
     media_tree::places_of_supports_are_not_read();
     selector_tree::places_are_not_read();

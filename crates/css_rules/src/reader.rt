@@ -2,26 +2,26 @@
 
 ghost use Rattle.std.specs.Prelude.{◌≡◌, ◌≤◌, ◌+◌, ◌<◌, ◌^◌, ◌||◌, ◌++◌, ◌∷◌, [], ℕ, IfOk, IfErr, IfSome, OnOk, OnErr, IsNone, Option, Some, None, drop, length, slice_get, slice_range};
 ghost use Rattle.std.specs.Option.{option_copied, option_map, option_to_list};
-ghost use Rattle.css_rules.specs.Components.{inside, head};
+ghost use Rattle.css_components.specs.Components.{inside, head};
+ghost use Rattle.css_rules.specs.Places.{first_place};
 ghost use Rattle.css_rules.specs.Refusals.{first_refusal, holds, is_unbuilt_property, sought_for};
-ghost use Rattle.css_rules.specs.Sheets.{block_refusals, declaration_refusals, declarations_of, first_place, is_rule, item_of, item_refusals, mark_place, plain_item, plain_refusals, prelude_of, prelude_refusals, rule_of, rule_refusals, rules_of, sheet_of, sheet_refusals, style_of, style_refusals, IsNamed, IsLeast};
+ghost use Rattle.css_rules.specs.Sheets.{block_refusals, declaration_refusals, declarations_of, is_rule, item_of, item_refusals, mark_place, plain_item, plain_refusals, prelude_of, prelude_refusals, rule_of, rule_refusals, style_of, style_refusals, IsNamed, IsLeast};
 ghost use Rattle.css_rules.specs.RuleEnds.{begins_at_rule, ends_in_braces, ends_item};
 ghost use Rattle.sheet_types.specs.Runs.{run_of};
 ghost use Rattle.css_rules.specs.Private.Faults.{fault_of};
 ghost use Rattle.css_rules.specs.Private.Marks.{EndsCut};
 ghost use Rattle.css_rules.specs.Private.Spans.{IsWithin, at_span, behind, declared_in};
 
-use crate::cuts::{
-    Span, end_of_cut, is_semicolon, item_mark, mark_at, rule_mark, trimmed, trimmed_span,
-};
+use crate::cuts::{Span, end_of_cut, item_mark, mark_at, rule_mark, trimmed_span};
 use crate::declaration::{Found, find_declaration, is_custom};
 use crate::first_law::the_first_refusal_is_named;
-use crate::parts::{begins_at_rule, head_of, is_braces, is_token, place_of};
+use crate::parts::begins_at_rule;
 use crate::refusal::{Cause, Refusal, Sought, sooner_of, sought_in};
 use crate::waiting::waiting_in;
+use css_components::{head_of, is_braces, is_semicolon, is_token, place_of, trimmed};
 use css_tokens::{Block, Component, Kind, List, OutOfMemory};
 use selector_tree::{Selector, SelectorFault, read_list};
-use sheet_types::{Declaration, Item, Sheet, Style};
+use sheet_types::{Declaration, Item, Style};
 use std::alloc::Global;
 use std::mem;
 
@@ -34,6 +34,9 @@ pub enum RuleFault {
     /// It has a construct that is not built yet.
     #[error("not built yet")]
     Unbuilt(u32),
+    /// An import stands behind other rules or in a block.
+    #[error("import comes too late")]
+    LateImport(u32),
     /// Memory ran out.
     #[error("out of memory")]
     Memory,
@@ -452,5 +455,6 @@ pub fn fault_of(refusal: Refusal) -> RuleFault
     match refusal.cause {
         Cause::Syntax => RuleFault::Syntax(refusal.at),
         Cause::Unbuilt => RuleFault::Unbuilt(refusal.at),
+        Cause::LateImport => RuleFault::LateImport(refusal.at),
     }
 }

@@ -1,10 +1,10 @@
 ghost use Rattle.std.specs.Prelude.{◌≡◌, ◌∷◌, [], IfOk, find};
 ghost use Rattle.css_tokens.specs.declared.component.Component.{Block as the_block};
 ghost use Rattle.css_tokens.specs.Trees.{pieces_of, pieces_all};
-ghost use Rattle.css_rules.specs.Refusals.{sooner_of, is_sought, sought_in, first_refusal, leads, rank, sooner, syntax, unbuilt, is_revert_layer, is_url};
+ghost use Rattle.css_rules.specs.Refusals.{sooner_of, is_sought, sought_in, first_refusal, late_import, leads, rank, sooner, syntax, unbuilt, is_revert_layer, is_url};
 ghost use Rattle.std.specs.Option.{option_map};
 
-use crate::parts::is_keyword;
+use css_components::is_keyword;
 use css_tokens::{Block, Component, Kind, OutOfMemory, Token};
 use std::alloc::Global;
 
@@ -13,6 +13,8 @@ use std::alloc::Global;
 pub enum Cause {
     /// It is a construct that is not built yet.
     Unbuilt,
+    /// It is an import that stands behind other rules or in a block.
+    LateImport,
     /// It cannot be read.
     Syntax,
 }
@@ -41,7 +43,8 @@ impl Cause {
     {
         match self {
             Cause::Unbuilt => 0,
-            Cause::Syntax => 1,
+            Cause::LateImport => 1,
+            Cause::Syntax => 2,
         }
     }
 }
@@ -64,6 +67,16 @@ impl Refusal {
         Refusal {
             at,
             cause: Cause::Unbuilt,
+        }
+    }
+
+    /// It is an import that stands too late.
+    pub fn late_import(at: u32) -> Refusal
+        ensures { result ≡ late_import at }
+    {
+        Refusal {
+            at,
+            cause: Cause::LateImport,
         }
     }
 

@@ -1,23 +1,22 @@
-//! Sheets and the rules in them, read from component values.
+//! Rules, read from component values.
 
-ghost use Rattle.std.specs.Prelude.{◌≡◌, ◌+◌, [], IfOk, IfErr, IsTrue, None, Some, drop, length, slice_get};
+ghost use Rattle.std.specs.Prelude.{◌≡◌, ◌+◌, [], IfOk, IsTrue, None, Some, drop, length, slice_get};
 ghost use Rattle.std.specs.Option.{option_to_list};
 ghost use Rattle.css_rules.specs.AtRules.{at_rule_of};
 ghost use Rattle.css_rules.specs.NestedRules.{in_block};
+ghost use Rattle.css_rules.specs.Places.{first_place};
 ghost use Rattle.css_rules.specs.Refusals.{first_refusal};
 ghost use Rattle.css_rules.specs.RuleEnds.{begins_at_rule, block_of, ends_in_braces};
-ghost use Rattle.css_rules.specs.Sheets.{at_rule_items, at_rule_refusals, first_place, reading, refusing, rule_of, rule_refusals, rules_of, sheet_of, sheet_refusals, IsNamed, IsLeast};
+ghost use Rattle.css_rules.specs.Sheets.{at_rule_items, at_rule_refusals, reading, refusing, rule_of, rule_refusals, rules_of, rules_refusals};
 
-use crate::at_rule::{AtRule, at_rule_of, copied};
-use crate::cuts::{end_of_cut, rule_mark, trimmed};
-use crate::first_law::the_first_refusal_is_named;
-use crate::parts::{begins_at_rule, is_braces, place_of};
-use crate::reader::{
-    Judged, RuleFault, fault_of, first_place, into_inside, push_some, read_style, take_one,
-};
+use crate::at_rule::{AtRule, at_rule_of};
+use crate::cuts::{end_of_cut, rule_mark};
+use crate::parts::begins_at_rule;
+use crate::reader::{Judged, first_place, into_inside, push_some, read_style, take_one};
 use crate::refusal::{Refusal, Sought, sooner_of, sought_in};
+use css_components::{is_braces, place_of, trimmed};
 use css_tokens::{Component, List, OutOfMemory};
-use sheet_types::{Group, GroupCondition, Item, Passed, PassedKind, Sheet};
+use sheet_types::{Group, GroupCondition, Item, Passed, PassedKind};
 use std::alloc::Global;
 
 /// Nothing, for this refusal.
@@ -83,7 +82,7 @@ fn read_group<'a>(
     condition: GroupCondition<'a>,
     block: List<Component<'a>>,
 ) -> Result<Judged<Option<Item<'a>>>, OutOfMemory>
-    ensures refusal { IfOk result (λ read. read.refusal ≡ first_refusal (at_rule_refusals at (AtRule.Group condition.entry) block.entry (sheet_refusals block.entry))) }
+    ensures refusal { IfOk result (λ read. read.refusal ≡ first_refusal (at_rule_refusals at (AtRule.Group condition.entry) block.entry (rules_refusals block.entry))) }
     ensures value { IfOk result (λ read. read.refusal ≡ None → at_rule_items at (AtRule.Group condition.entry) block.entry (rules_of block.entry) ≡ Some (option_to_list read.value)) }
 {
     let Judged {
@@ -108,7 +107,7 @@ fn read_at_rule<'a>(
     mark: Option<Component<'a>>,
 ) -> Result<Judged<Option<Item<'a>>>, OutOfMemory>
     requires { IsTrue (begins_at_rule rule.now) }
-    ensures refusal { IfOk result (λ read. read.refusal ≡ first_refusal (at_rule_refusals (first_place rule.now 0) (at_rule_of rule.now (ends_in_braces mark.entry)) (block_of mark.entry) (in_block refusing sheet_refusals mark.entry))) }
+    ensures refusal { IfOk result (λ read. read.refusal ≡ first_refusal (at_rule_refusals (first_place rule.now 0) (at_rule_of rule.now (ends_in_braces mark.entry)) (block_of mark.entry) (in_block refusing rules_refusals mark.entry))) }
     ensures value { IfOk result (λ read. read.refusal ≡ None → at_rule_items (first_place rule.now 0) (at_rule_of rule.now (ends_in_braces mark.entry)) (block_of mark.entry) (in_block reading rules_of mark.entry) ≡ Some (option_to_list read.value)) }
 {
     let at = first_place(rule, 0);
@@ -118,6 +117,7 @@ fn read_at_rule<'a>(
         AtRule::PassedOn(kind, prelude) => {
             read_passed(alloc, at, kind, prelude, into_block(alloc, mark))
         }
+        AtRule::Import => Ok(refused(Some(Refusal::late_import(at)))),
         AtRule::Waiting => Ok(refused(Some(Refusal::unbuilt(at)))),
         AtRule::Unknown => Ok(Judged {
             value: Some(Item::Other(at)),
@@ -167,7 +167,7 @@ fn read_rules<'a>(
     alloc: Global,
     rules: List<Component<'a>>,
 ) -> Result<Judged<List<Item<'a>>>, OutOfMemory>
-    ensures refusal { IfOk result (λ read. read.refusal ≡ first_refusal (sheet_refusals rules.entry)) }
+    ensures refusal { IfOk result (λ read. read.refusal ≡ first_refusal (rules_refusals rules.entry)) }
     ensures value { IfOk result (λ read. read.refusal ≡ None → rules_of rules.entry ≡ Some read.value) }
 {
     let mut components = rules.into_vec();
@@ -187,24 +187,4 @@ fn read_rules<'a>(
         value: items,
         refusal,
     })
-}
-
-/// Reads a sheet: style rules, groups of rules under conditions, rules that are passed on, and at-rules of other names (CSS
-/// Syntax 3, section 9; Conditional Rules 3, section 2). The end is the place behind the last component.
-pub fn read_sheet<'a>(
-    alloc: Global,
-    text: &[Component<'a>],
-    _end: u32,
-) -> Result<Sheet<'a>, RuleFault>
-    ensures found { IfOk result (λ sheet. sheet_of text.now ≡ Some sheet) }
-    ensures faultless { IfOk result (λ _. sheet_refusals text.now ≡ []) }
-    ensures fault { IfErr result (λ fault. IsNamed fault (first_refusal (sheet_refusals text.now))) }
-    ensures least { IfErr result (λ fault. IsLeast fault (sheet_refusals text.now)) }
-{
-    the_first_refusal_is_named();
-    let read = read_rules(alloc, copied(alloc, text)?)?;
-    match read.refusal {
-        None => Ok(Sheet { items: read.value }),
-        Some(refusal) => Err(fault_of(refusal)),
-    }
 }

@@ -8,16 +8,17 @@ ghost use Rattle.css_rules.specs.Cuts.{Cut};
 ghost use Rattle.css_rules.specs.Refusals.{first_refusal};
 ghost use Rattle.css_rules.specs.SheetBuilding.{HasRead, HasTaken};
 ghost use Rattle.css_rules.specs.Sheets.{sheet_of, sheet_refusals, IsNamed, IsLeast};
+ghost use Rattle.css_rules.specs.Private.Adding.{HasAdded, HasAddedImport, HasAddedItem};
 ghost use Rattle.css_rules.specs.Private.Starts.{ends_begun, start_with};
 
-use crate::cuts::is_semicolon;
 use crate::first_law::the_first_refusal_is_named;
-use crate::parts::{is_at_keyword, is_braces, is_gap};
+use crate::head::{Part, Role, read_import_rule};
 use crate::reader::{Judged, RuleFault, fault_of, push_some};
 use crate::refusal::{Refusal, sooner_of};
 use crate::rules::read_rule;
+use css_components::{is_at_keyword, is_braces, is_gap, is_semicolon};
 use css_tokens::{Component, List, OutOfMemory};
-use sheet_types::{Item, Sheet};
+use sheet_types::{Import, Item, Sheet};
 use std::alloc::Global;
 
 /// How a rule begins, as far as it has come.
@@ -71,7 +72,10 @@ pub struct SheetBuilder<'a> {
     current: List<Component<'a>>,
     /// How that rule begins.
     start: Start,
+    /// How far the front of the sheet has been read.
+    part: Part,
     /// What the rules before it are read as. Where one is refused, they mean nothing.
+    imports: List<Import<'a>>,
     items: List<Item<'a>>,
     /// What the rules before it are refused for.
     refusal: Option<Refusal>,
@@ -86,6 +90,8 @@ impl<'a> SheetBuilder<'a> {
             alloc,
             current: List::new(alloc),
             start: Start::Nothing,
+            part: Part::Start,
+            imports: List::new(alloc),
             items: List::new(alloc),
             refusal: None,
         }
@@ -112,12 +118,48 @@ impl<'a> SheetBuilder<'a> {
         ensures start { OnOk result (self.new.start ≡ Nothing) }
         ensures err { OnErr result (self.new ≡ self.old) }
     {
+        let role = self.part.role(self.alloc, self.current.as_slice(), &mark)?;
+        self.add_rule(role, mark)?;
+        self.part = role.behind();
+        self.current.clear();
+        self.start = Start::Nothing;
+        Ok(())
+    }
+
+    /// Reads the rule that is being read and that this mark ends, by its role. A refusal of memory changes nothing.
+    fn add_rule(&mut self, role: Role, mark: Option<Component<'a>>) -> Result<(), OutOfMemory>
+        ensures ok { OnOk result (HasAdded role self.old self.new (record { front = self.old.current; mark = mark.entry })) }
+        ensures err { OnErr result (self.new ≡ self.old) }
+    {
+        match role {
+            Role::Charset => Ok(()),
+            Role::Import => self.add_import(&mark),
+            Role::Item => self.add_item(mark),
+        }
+    }
+
+    /// Reads the import that is being read and that this mark ends. A refusal of memory changes nothing.
+    fn add_import(&mut self, mark: &Option<Component<'a>>) -> Result<(), OutOfMemory>
+        ensures ok { OnOk result (HasAddedImport self.old self.new (record { front = self.old.current; mark = mark.now })) }
+        ensures err { OnErr result (self.new ≡ self.old) }
+    {
+        let import = read_import_rule(self.alloc, self.current.as_slice(), mark)?;
+        let named = sooner_of(self.refusal, import.refusal);
+        let Judged { value, refusal: _ } = import;
+        push_some(&mut self.imports, value)?;
+        self.refusal = named;
+        Ok(())
+    }
+
+    /// Reads the item that is being read and that this mark ends. A refusal of memory changes nothing.
+    fn add_item(&mut self, mark: Option<Component<'a>>) -> Result<(), OutOfMemory>
+        ensures ok { OnOk result (HasAddedItem self.old self.new (record { front = self.old.current; mark = mark.entry })) }
+        ensures err { OnErr result (self.new ≡ self.old) }
+    {
         let rule = read_rule(self.alloc, self.current.as_slice(), mark)?;
         let Judged { value, refusal } = rule;
         push_some(&mut self.items, value)?;
         self.refusal = sooner_of(self.refusal, refusal);
-        self.current.clear();
-        self.start = Start::Nothing;
         Ok(())
     }
 
@@ -131,7 +173,10 @@ impl<'a> SheetBuilder<'a> {
         the_first_refusal_is_named();
         self.end_rule(None)?;
         match self.refusal {
-            None => Ok(Sheet { items: self.items }),
+            None => Ok(Sheet {
+                imports: self.imports,
+                items: self.items,
+            }),
             Some(refusal) => Err(fault_of(refusal)),
         }
     }

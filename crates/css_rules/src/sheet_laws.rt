@@ -1,4 +1,4 @@
-ghost use Rattle.sheet_types.specs.BareItems.{bare_items, bare_sheet, filled_items};
+ghost use Rattle.sheet_types.specs.BareItems.{bare_items, bare_sheet, filled_items, importless};
 ghost use Rattle.css_rules.specs.Printable.{ArePrintable, all_whole};
 ghost use Rattle.sheet_types.specs.SheetAgain.{items_again};
 ghost use Rattle.sheet_types.specs.SheetTexts.{items_text};
@@ -30,12 +30,12 @@ pub fn sheets_are_printable()
 }
 
 /// The text that printable items print as reads as components that spell the same items: its tokens are their words, their
-/// brackets are paired, and the sheet that they spell has, item by item, these items without the rules and groups that declare
+/// brackets are paired, and the sheet that they spell has no import and, item by item, these items without the rules and groups that declare
 /// nothing, places aside.
 pub fn sheets_are_read_again()
     ensures reads { (items : List Item) → ArePrintable items → AllStand items → Reads (items_text items) (words_all (items_again items)) }
     ensures formed { (items : List Item) → ArePrintable items → IsTrue (all_formed (items_again items)) }
-    ensures same { (items : List Item) → ArePrintable items → option_map bare_sheet (sheet_of (items_again items)) ≡ Some (filled_items (bare_items items)) }
+    ensures same { (items : List Item) → ArePrintable items → option_map bare_sheet (sheet_of (items_again items)) ≡ Some (importless (filled_items (bare_items items))) }
 {
     css_tokens::printed_again();
     css_tokens::one_pairing();

@@ -7,8 +7,8 @@ ghost use Rattle.css_tokens.specs.Trees.{closing, pieces_of, pieces_all};
 ghost use Rattle.css_rules.specs.Private.Waiting.{begun, place_seen, seen_at, seen_over};
 ghost use Rattle.css_rules.specs.Refusals.{first_refusal, is_ampersand, is_is, waiting_in};
 
-use crate::parts::is_keyword;
 use crate::refusal::Refusal;
+use css_components::is_keyword;
 use css_tokens::{Block, Component, Kind, OutOfMemory, Token};
 use std::alloc::Global;
 

@@ -4,7 +4,7 @@ use Rattle.std.specs.List.{list_any}
 use Rattle.css_tokens.specs.declared.component.Component.{Component}
 use Rattle.css_rules.specs.declared.cuts.Mark.{Mark}
 use Rattle.css_rules.specs.declared.cuts.Mark.TheVariants.{Braces, Semicolon, BracesOrSemicolon, Bang}
-use Rattle.css_rules.specs.Components.{is_braces, is_semicolon, is_bang}
+use Rattle.css_components.specs.Components.{is_braces, is_semicolon, is_bang}
 use Rattle.css_rules.specs.Cuts.{cuts}
 
 -- is the component this mark: a `{}` block, a semicolon, one of these, or a `!`?

@@ -3,8 +3,8 @@ use Rattle.std.specs.Prelude.{List, [], ◌∷◌, Bool, ◌||◌, if◌then◌e
 use Rattle.css_tokens.specs.declared.component.Component.{Component}
 use Rattle.css_rules.specs.declared.sheet_builder.Start.{Start}
 use Rattle.css_rules.specs.declared.sheet_builder.Start.TheVariants.{Nothing, AtRule, Other}
-use Rattle.css_rules.specs.Components.{is_at_keyword, is_braces, is_gap, is_semicolon}
-use Rattle.css_rules.specs.Cuts.{trimmed_start}
+use Rattle.css_components.specs.Components.{is_at_keyword, is_braces, is_gap, is_semicolon}
+use Rattle.css_components.specs.Trimming.{trimmed_start}
 
 -- how components begin that have no white space and comments at the start
 abbrev pub begun : List Component → Start

@@ -4,7 +4,7 @@ use Rattle.css_tokens.specs.Piece.{Piece}
 use Rattle.selector_tree.specs.Signs.{is_comment_kind}
 use Rattle.css_rules.specs.declared.waiting.Seen.{Seen}
 use Rattle.css_rules.specs.declared.waiting.Seen.TheVariants.{Nothing, Colon, Waiting}
-use Rattle.css_rules.specs.Components.{is_colon_kind}
+use Rattle.css_components.specs.Components.{is_colon_kind}
 use Rattle.css_rules.specs.Refusals.{is_ampersand, is_is}
 
 -- what is seen at a token with nothing before it

@@ -26,9 +26,9 @@ pub fn keywords_are_named()
     ensures moz_keyframes { keyword_named (codes "-moz-keyframes") ≡ keywords.PassedOn MozKeyframes }
     ensures page { keyword_named (codes "page") ≡ keywords.PassedOn Page }
     ensures counter_style { keyword_named (codes "counter-style") ≡ keywords.PassedOn CounterStyle }
-    ensures import { keyword_named (codes "import") ≡ keywords.Waiting }
-    ensures charset { keyword_named (codes "charset") ≡ keywords.Waiting }
-    ensures layer { keyword_named (codes "layer") ≡ keywords.Waiting }
+    ensures import { keyword_named (codes "import") ≡ keywords.Import }
+    ensures charset { keyword_named (codes "charset") ≡ keywords.Charset }
+    ensures layer { keyword_named (codes "layer") ≡ keywords.Layer }
     ensures container { keyword_named (codes "container") ≡ keywords.Unknown }
     ensures opera_keyframes { keyword_named (codes "-o-keyframes") ≡ keywords.Unknown }
 {}
@@ -56,7 +56,10 @@ pub fn at_rules_are_told()
     ensures page { at_rule_of (source (at_keyword "@page" ∷ space ∷ colon ∷ ident "left" ∷ space ∷ [])) true ≡ rules.PassedOn Page (laid 6 (colon ∷ ident "left" ∷ [])) }
     ensures keyframes_without_a_name { at_rule_of (source (at_keyword "@keyframes" ∷ [])) true ≡ rules.Unread }
     ensures page_without_a_block { at_rule_of (source (at_keyword "@page" ∷ [])) false ≡ rules.Unread }
-    ensures import { at_rule_of (source (at_keyword "@import" ∷ space ∷ string "'a'" ∷ [])) false ≡ rules.Waiting }
+    ensures import { at_rule_of (source (at_keyword "@import" ∷ space ∷ string "'a'" ∷ [])) false ≡ rules.Import }
+    ensures import_with_a_block { at_rule_of (source (at_keyword "@IMPORT" ∷ space ∷ string "'a'" ∷ [])) true ≡ rules.Import }
+    ensures charset { at_rule_of (source (at_keyword "@charset" ∷ space ∷ string "'utf-8'" ∷ [])) false ≡ rules.Unknown }
+    ensures charset_with_a_block { at_rule_of (source (at_keyword "@charset" ∷ [])) true ≡ rules.Unknown }
     ensures layer_with_a_block { at_rule_of (source (at_keyword "@layer" ∷ [])) true ≡ rules.Waiting }
     ensures unknown { at_rule_of (source (at_keyword "@foo" ∷ space ∷ ident "a" ∷ [])) true ≡ rules.Unknown }
     ensures unknown_without_a_block { at_rule_of (source (at_keyword "@foo" ∷ [])) false ≡ rules.Unknown }
@@ -64,10 +67,10 @@ pub fn at_rules_are_told()
 
 /// What sheets with at-rules have, with their places. In the block of a group stands what may stand at the top.
 pub fn at_rules_are_spelled()
-    ensures group { sheet_of (source (at_keyword "@media" ∷ space ∷ ident "print" ∷ braces (ident "a" ∷ braces (ident "b" ∷ colon ∷ ident "c" ∷ []) ∷ []) ∷ [])) ≡ Some (record { items = Group (record { condition = conditions.Media (media prefixes.Plain "print" ∷ []); items = Style (record { selectors = type_at 13 "a" ∷ []; items = Plain (unmarked 15 "b" (laid 17 (ident "c" ∷ [])) ∷ []) ∷ []; at = 13 }) ∷ []; at = 0 }) ∷ [] }) }
-    ensures group_in_a_group { sheet_of (source (space ∷ at_keyword "@media" ∷ braces (at_keyword "@media" ∷ braces [] ∷ at_keyword "@a" ∷ semicolon ∷ at_keyword "@b" ∷ []) ∷ [])) ≡ Some (record { items = Group (record { condition = conditions.Media ([]); items = Group (record { condition = conditions.Media ([]); items = []; at = 8 }) ∷ Other 16 ∷ Other 19 ∷ []; at = 1 }) ∷ [] }) }
-    ensures rule_that_is_passed_on { sheet_of (source (at_keyword "@font-face" ∷ braces (ident "a" ∷ colon ∷ ident "b" ∷ []) ∷ [])) ≡ Some (record { items = Passed (record { kind = FontFace; prelude = []; block = laid 11 (ident "a" ∷ colon ∷ ident "b" ∷ []); at = 0 }) ∷ [] }) }
-    ensures unknown { sheet_of (source (at_keyword "@a" ∷ space ∷ braces (ident "b" ∷ []) ∷ space ∷ [])) ≡ Some (record { items = Other 0 ∷ [] }) }
+    ensures group { sheet_of (source (at_keyword "@media" ∷ space ∷ ident "print" ∷ braces (ident "a" ∷ braces (ident "b" ∷ colon ∷ ident "c" ∷ []) ∷ []) ∷ [])) ≡ Some (record { imports = []; items = Group (record { condition = conditions.Media (media prefixes.Plain "print" ∷ []); items = Style (record { selectors = type_at 13 "a" ∷ []; items = Plain (unmarked 15 "b" (laid 17 (ident "c" ∷ [])) ∷ []) ∷ []; at = 13 }) ∷ []; at = 0 }) ∷ [] }) }
+    ensures group_in_a_group { sheet_of (source (space ∷ at_keyword "@media" ∷ braces (at_keyword "@media" ∷ braces [] ∷ at_keyword "@a" ∷ semicolon ∷ at_keyword "@b" ∷ []) ∷ [])) ≡ Some (record { imports = []; items = Group (record { condition = conditions.Media ([]); items = Group (record { condition = conditions.Media ([]); items = []; at = 8 }) ∷ Other 16 ∷ Other 19 ∷ []; at = 1 }) ∷ [] }) }
+    ensures rule_that_is_passed_on { sheet_of (source (at_keyword "@font-face" ∷ braces (ident "a" ∷ colon ∷ ident "b" ∷ []) ∷ [])) ≡ Some (record { imports = []; items = Passed (record { kind = FontFace; prelude = []; block = laid 11 (ident "a" ∷ colon ∷ ident "b" ∷ []); at = 0 }) ∷ [] }) }
+    ensures unknown { sheet_of (source (at_keyword "@a" ∷ space ∷ braces (ident "b" ∷ []) ∷ space ∷ [])) ≡ Some (record { imports = []; items = Other 0 ∷ [] }) }
     ensures no_sheet_in_a_group { sheet_of (source (at_keyword "@media" ∷ braces (ident "a" ∷ []) ∷ [])) ≡ None }
     ensures layer_in_a_group { sheet_of (source (at_keyword "@media" ∷ braces (at_keyword "@layer" ∷ braces [] ∷ []) ∷ [])) ≡ None }
     ensures url_in_a_rule_that_is_passed_on { sheet_of (source (at_keyword "@font-face" ∷ braces (ident "a" ∷ colon ∷ url "url(b)" ∷ []) ∷ [])) ≡ None }

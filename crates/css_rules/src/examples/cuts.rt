@@ -2,8 +2,9 @@
 #![tactic(auto, using(crate::proofs::Computing::computing))]
 
 ghost use Rattle.std.specs.Prelude.{◌≡◌, List, [], ◌∷◌, Some, None};
-ghost use Rattle.css_rules.specs.Components.{is_semicolon};
-ghost use Rattle.css_rules.specs.Cuts.{cuts, cuts_at, trimmed};
+ghost use Rattle.css_components.specs.Components.{is_semicolon};
+ghost use Rattle.css_components.specs.Trimming.{trimmed};
+ghost use Rattle.css_rules.specs.Cuts.{cuts, cuts_at};
 ghost use Rattle.css_rules.specs.SelectorFaults.{list_faults};
 ghost use Rattle.css_rules.specs.RuleEnds.{ends_item, ends_rule};
 ghost use Rattle.css_rules.specs.Samples.{at_keyword, braces, dot, semicolon};

@@ -5,7 +5,7 @@
 ghost use Rattle.std.specs.Prelude.{◌≡◌, List, [], ◌∷◌, true, false, Some, None, codes};
 ghost use Rattle.std.specs.Option.{option_map};
 ghost use Rattle.sheet_types.specs.declared.sheet.Item.{Style, Plain};
-ghost use Rattle.sheet_types.specs.BareItems.{bare_sheet, filled_items};
+ghost use Rattle.sheet_types.specs.BareItems.{bare_sheet, filled_items, importless};
 ghost use Rattle.css_rules.specs.Declarations.{declaration_of};
 ghost use Rattle.css_rules.specs.Refusals.{first_refusal, syntax, unbuilt};
 ghost use Rattle.css_rules.specs.Printable.{all_whole};
@@ -42,12 +42,12 @@ pub fn no_declarations()
 
 /// The sheet that components spell, with its places. What stands behind the last block is no rule.
 pub fn sheets_are_spelled()
-    ensures empty { sheet_of [] ≡ Some (record { items = [] }) }
-    ensures rule { sheet_of (source (space ∷ ident "a" ∷ braces (ident "b" ∷ colon ∷ ident "c" ∷ []) ∷ [])) ≡ Some (record { items = Style (record { selectors = type_at 1 "a" ∷ []; items = Plain (unmarked 3 "b" (laid 5 (ident "c" ∷ [])) ∷ []) ∷ []; at = 1 }) ∷ [] }) }
-    ensures no_declaration { sheet_of (source (ident "a" ∷ braces (semicolon ∷ comment ∷ []) ∷ space ∷ [])) ≡ Some (record { items = Style (record { selectors = type_at 0 "a" ∷ []; items = []; at = 0 }) ∷ [] }) }
+    ensures empty { sheet_of [] ≡ Some (record { imports = []; items = [] }) }
+    ensures rule { sheet_of (source (space ∷ ident "a" ∷ braces (ident "b" ∷ colon ∷ ident "c" ∷ []) ∷ [])) ≡ Some (record { imports = []; items = Style (record { selectors = type_at 1 "a" ∷ []; items = Plain (unmarked 3 "b" (laid 5 (ident "c" ∷ [])) ∷ []) ∷ []; at = 1 }) ∷ [] }) }
+    ensures no_declaration { sheet_of (source (ident "a" ∷ braces (semicolon ∷ comment ∷ []) ∷ space ∷ [])) ≡ Some (record { imports = []; items = Style (record { selectors = type_at 0 "a" ∷ []; items = []; at = 0 }) ∷ [] }) }
     ensures no_rule_behind { sheet_of (source (ident "a" ∷ braces (semicolon ∷ comment ∷ []) ∷ ident "b" ∷ [])) ≡ None }
-    ensures two_colons { sheet_of (source (ident "p" ∷ braces (ident "a" ∷ colon ∷ ident "b" ∷ space ∷ ident "c" ∷ colon ∷ ident "d" ∷ []) ∷ [])) ≡ Some (record { items = Style (record { selectors = type_at 0 "p" ∷ []; items = Plain (unmarked 2 "a" (laid 4 (ident "b" ∷ space ∷ ident "c" ∷ colon ∷ ident "d" ∷ [])) ∷ []) ∷ []; at = 0 }) ∷ [] }) }
-    ensures block_of_a_custom { sheet_of (source (ident "p" ∷ braces (ident "--x" ∷ colon ∷ braces (ident "a" ∷ []) ∷ ident "b" ∷ semicolon ∷ ident "c" ∷ colon ∷ ident "d" ∷ []) ∷ [])) ≡ Some (record { items = Style (record { selectors = type_at 0 "p" ∷ []; items = Plain (unmarked 2 "--x" (laid 6 (braces (ident "a" ∷ []) ∷ ident "b" ∷ [])) ∷ unmarked 11 "c" (laid 13 (ident "d" ∷ [])) ∷ []) ∷ []; at = 0 }) ∷ [] }) }
+    ensures two_colons { sheet_of (source (ident "p" ∷ braces (ident "a" ∷ colon ∷ ident "b" ∷ space ∷ ident "c" ∷ colon ∷ ident "d" ∷ []) ∷ [])) ≡ Some (record { imports = []; items = Style (record { selectors = type_at 0 "p" ∷ []; items = Plain (unmarked 2 "a" (laid 4 (ident "b" ∷ space ∷ ident "c" ∷ colon ∷ ident "d" ∷ [])) ∷ []) ∷ []; at = 0 }) ∷ [] }) }
+    ensures block_of_a_custom { sheet_of (source (ident "p" ∷ braces (ident "--x" ∷ colon ∷ braces (ident "a" ∷ []) ∷ ident "b" ∷ semicolon ∷ ident "c" ∷ colon ∷ ident "d" ∷ []) ∷ [])) ≡ Some (record { imports = []; items = Style (record { selectors = type_at 0 "p" ∷ []; items = Plain (unmarked 2 "--x" (laid 6 (braces (ident "a" ∷ []) ∷ ident "b" ∷ [])) ∷ unmarked 11 "c" (laid 13 (ident "d" ∷ [])) ∷ []) ∷ []; at = 0 }) ∷ [] }) }
 {}
 
 /// What has no sheet: an item that spells no declaration, alone or beside one that does, and each construct that is not built yet.
@@ -71,12 +71,12 @@ pub fn no_sheets()
 
 /// The items of a sheet, places aside, and without the rules that declare nothing.
 pub fn items_of_sheets()
-    ensures rule { option_map bare_sheet (sheet_of (source (dot ∷ ident "a" ∷ braces (ident "color" ∷ colon ∷ ident "red" ∷ []) ∷ []))) ≡ Some (rule (only (class "a") ∷ []) (plain "color" "red" ∷ []) ∷ []) }
-    ensures no_declaration { option_map bare_sheet (sheet_of (source (space ∷ ident "p" ∷ braces (semicolon ∷ comment ∷ []) ∷ []))) ≡ Some (empty_rule (one (typed "p" []) ∷ []) ∷ []) }
+    ensures rule { option_map bare_sheet (sheet_of (source (dot ∷ ident "a" ∷ braces (ident "color" ∷ colon ∷ ident "red" ∷ []) ∷ []))) ≡ Some (importless (rule (only (class "a") ∷ []) (plain "color" "red" ∷ []) ∷ [])) }
+    ensures no_declaration { option_map bare_sheet (sheet_of (source (space ∷ ident "p" ∷ braces (semicolon ∷ comment ∷ []) ∷ []))) ≡ Some (importless (empty_rule (one (typed "p" []) ∷ []) ∷ [])) }
     ensures nothing_declared { option_map (λ sheet. filled_items sheet.items) (sheet_of (source (ident "p" ∷ braces (semicolon ∷ comment ∷ []) ∷ []))) ≡ Some [] }
     ensures something_declared { option_map (λ sheet. filled_items sheet.items) (sheet_of (source (ident "p" ∷ braces [] ∷ ident "a" ∷ braces (ident "b" ∷ colon ∷ ident "c" ∷ []) ∷ []))) ≡ Some (Style (record { selectors = type_at 3 "a" ∷ []; items = Plain (unmarked 5 "b" (laid 7 (ident "c" ∷ [])) ∷ []) ∷ []; at = 3 }) ∷ []) }
-    ensures two_declarations { option_map bare_sheet (sheet_of (source (ident "a" ∷ braces (ident "b" ∷ colon ∷ ident "c" ∷ semicolon ∷ ident "d" ∷ colon ∷ ident "e" ∷ []) ∷ []))) ≡ Some (rule (one (typed "a" []) ∷ []) (plain "b" "c" ∷ plain "d" "e" ∷ []) ∷ []) }
-    ensures two_rules { option_map bare_sheet (sheet_of (source (ident "a" ∷ braces (ident "b" ∷ colon ∷ ident "c" ∷ []) ∷ ident "d" ∷ braces (ident "e" ∷ colon ∷ ident "f" ∷ []) ∷ []))) ≡ Some (rule (one (typed "a" []) ∷ []) (plain "b" "c" ∷ []) ∷ rule (one (typed "d" []) ∷ []) (plain "e" "f" ∷ []) ∷ []) }
+    ensures two_declarations { option_map bare_sheet (sheet_of (source (ident "a" ∷ braces (ident "b" ∷ colon ∷ ident "c" ∷ semicolon ∷ ident "d" ∷ colon ∷ ident "e" ∷ []) ∷ []))) ≡ Some (importless (rule (one (typed "a" []) ∷ []) (plain "b" "c" ∷ plain "d" "e" ∷ []) ∷ [])) }
+    ensures two_rules { option_map bare_sheet (sheet_of (source (ident "a" ∷ braces (ident "b" ∷ colon ∷ ident "c" ∷ []) ∷ ident "d" ∷ braces (ident "e" ∷ colon ∷ ident "f" ∷ []) ∷ []))) ≡ Some (importless (rule (one (typed "a" []) ∷ []) (plain "b" "c" ∷ []) ∷ rule (one (typed "d" []) ∷ []) (plain "e" "f" ∷ []) ∷ [])) }
 {}
 
 /// How a sheet prints: a rule on a line, without the white space that is not needed.
@@ -104,7 +104,7 @@ pub fn sheets_are_whole()
 pub fn rules_are_refused()
     ensures none { sheet_refusals (source (dot ∷ ident "a" ∷ braces (ident "color" ∷ colon ∷ ident "red" ∷ []) ∷ [])) ≡ [] }
     ensures at_rule { sheet_refusals (source (at_keyword "@layer" ∷ space ∷ ident "a" ∷ braces [] ∷ [])) ≡ unbuilt 0 ∷ [] }
-    ensures at_rule_without_a_block { sheet_refusals (source (at_keyword "@import" ∷ space ∷ string "'x'" ∷ semicolon ∷ ident "p" ∷ braces [] ∷ [])) ≡ unbuilt 0 ∷ [] }
+    ensures at_rule_without_a_block { sheet_refusals (source (at_keyword "@layer" ∷ space ∷ ident "x" ∷ semicolon ∷ ident "p" ∷ braces [] ∷ [])) ≡ unbuilt 0 ∷ [] }
     ensures no_block { sheet_refusals (source (ident "p" ∷ braces [] ∷ space ∷ ident "q" ∷ [])) ≡ syntax 4 ∷ [] }
     ensures at_rule_before_a_rule { sheet_refusals (source (at_keyword "@layer" ∷ space ∷ ident "print" ∷ semicolon ∷ dot ∷ dot ∷ ident "a" ∷ braces [] ∷ [])) ≡ unbuilt 0 ∷ syntax 13 ∷ [] }
     ensures comment_behind { sheet_refusals (source (ident "p" ∷ braces [] ∷ space ∷ comment ∷ [])) ≡ [] }

@@ -1,6 +1,6 @@
 use Rattle.std.proofs.Common.{◌∙◌, sym, ap, option_map}
 use Rattle.std.proofs.lemmas.List.{take_rest}
-use Rattle.css_rules.specs.Cuts.{trimmed_start}
+use Rattle.css_components.specs.Trimming.{trimmed_start}
 use Rattle.css_rules.proofs.SpanLemmas.{tail-last}
 use Rattle.css_rules.proofs.declaration.find_declaration.Goals as goal
 

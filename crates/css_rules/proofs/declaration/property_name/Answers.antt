@@ -1,7 +1,7 @@
 use Rattle.std.proofs.Common.{◌∙◌, sym, ap, not, ◌&&◌}
 use Rattle.std.specs.List.{list_any}
 use Rattle.std.specs.Char.{is_ascii_uppercase}
-use Rattle.css_rules.specs.Components.{is_custom}
+use Rattle.css_components.specs.Components.{is_custom}
 use Rattle.css_rules.proofs.DeclarationLemmas.{name_kept}
 use Rattle.css_rules.proofs.declaration.property_name.Goals as goal
 

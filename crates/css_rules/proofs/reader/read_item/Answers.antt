@@ -1,6 +1,6 @@
 use Rattle.std.proofs.Common.{◌≡◌, ◌∙◌, sym, ap, cond, false, ◌||◌, None, Some, option_map}
 use Rattle.std.specs.Option.{option_copied, option_to_list}
-use Rattle.css_rules.specs.Cuts.{trimmed}
+use Rattle.css_components.specs.Trimming.{trimmed}
 use Rattle.css_rules.specs.Private.Spans.{declared_in}
 use Rattle.css_rules.specs.Sheets.{plain_item}
 use Rattle.css_rules.specs.RuleEnds.{begins_at_rule, ends_in_braces}

@@ -1,5 +1,5 @@
 use Rattle.std.proofs.Common.{◌∙◌, sym, ap}
-use Rattle.css_rules.specs.Components.{head, inside}
+use Rattle.css_components.specs.Components.{head, inside}
 use Rattle.css_rules.specs.Refusals.{sooner_of, first_refusal}
 use Rattle.css_rules.specs.Sheets.{prelude_refusals, block_refusals}
 use Rattle.css_rules.proofs.RefusalLemmas.{first_refusal-append}

@@ -2,7 +2,7 @@ use Rattle.std.proofs.Common.{◌≡◌, ◌≤◌, ◌+◌, ◌-◌, ◌*◌, �
 use Rattle.css_tokens.specs.Trees.{pieces_all}
 use Rattle.css_rules.specs.ReadAll.{read_all}
 use Rattle.css_rules.specs.Refusals.{first_refusal, sooner_of}
-use Rattle.css_rules.specs.Sheets.{rule_of, rules_of, rule_refusals, sheet_refusals}
+use Rattle.css_rules.specs.Sheets.{rule_of, rules_of, rule_refusals, rules_refusals}
 use Rattle.css_rules.specs.RuleEnds.{ends_rule}
 use Rattle.css_rules.proofs.CutLemmas.{cuts_left}
 use Rattle.css_rules.proofs.RulesReader.{mark_size}
@@ -28,7 +28,7 @@ invariant-read_rules-loop-from l =
     let left = cuts_left ends_rule (vec_items l.components) l.from in
     (l.from ≤ length (vec_items l.components) + 1)
     × (length (pieces_all (drop l.from (vec_items l.components))) ≤ length (pieces_all l.fn.rules))
-    × (sooner_of l.refusal (first_refusal (flat_map rule_refusals left)) ≡ first_refusal (sheet_refusals l.fn.rules))
+    × (sooner_of l.refusal (first_refusal (flat_map rule_refusals left)) ≡ first_refusal (rules_refusals l.fn.rules))
     × (l.refusal ≡ None → option_map (λ more. l.items ++ more) (read_all rule_of left) ≡ rules_of l.fn.rules)
 
 abbrev pub decreases-read_rules-loop-from : goal.decreases-read_rules-loop-from

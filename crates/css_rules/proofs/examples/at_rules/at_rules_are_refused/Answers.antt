@@ -11,3 +11,7 @@ returns-clause-no_query c = simp at_rules (search (rules, at_rules))
 pub returns-clause-in_a_group : goal.returns-clause-in_a_group
 unfolding chars encode
 returns-clause-in_a_group c = simp at_rules (search (rules, at_rules))
+
+pub returns-clause-in_a_rule_that_is_passed_on : goal.returns-clause-in_a_rule_that_is_passed_on
+unfolding chars encode
+returns-clause-in_a_rule_that_is_passed_on c = simp at_rules (search (rules, at_rules))

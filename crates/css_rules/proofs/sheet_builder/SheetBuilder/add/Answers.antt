@@ -21,4 +21,4 @@ returns-then-is_ended_by-clause-ok c =
 
 pub returns-clause-ok : goal.returns-clause-ok
 returns-clause-ok c = λ taken.
-    taken-going c.args.self.now _ taken c.args.component (sym c.is_ended_by.ensures ∙ c.if-is_ended_by.false) c.in_ok-push.ensures.ok c.with-start.ensures refl refl
+    taken-going c.args.self.now _ taken c.args.component (sym c.is_ended_by.ensures ∙ c.if-is_ended_by.false) c.in_ok-push.ensures.ok c.with-start.ensures refl refl refl refl

@@ -1,5 +1,4 @@
-use Rattle.std.proofs.Common.{◌∙◌, ap, sym}
-use Rattle.std.specs.Option.{option_map}
+use Rattle.std.proofs.Common.{◌∙◌, sym}
 use Rattle.css_rules.specs.Sheets.{sheet_refusals}
 use Rattle.css_rules.proofs.NamedFaults.{fault-least, fault-named}
 use Rattle.css_rules.proofs.RefusalLemmas.{first_refusal-none}
@@ -9,7 +8,7 @@ use Rattle.css_rules.proofs.sheet_builder.SheetBuilder.finish.Goals as goal
 pub returns-in-None-clause-found : goal.returns-in-None-clause-found
 returns-in-None-clause-found c = λ taken has.
     let read = taken-read c.args.self c.end_rule.new.self taken c.in_ok-end_rule.ensures.read has in
-    ap (option_map (λ items. record { items = items })) (read.items c.in-None.is)
+    read.sheet c.in-None.is
 
 pub returns-in-None-clause-faultless : goal.returns-in-None-clause-faultless
 returns-in-None-clause-faultless c = λ taken has.

@@ -1,6 +1,0 @@
-use Rattle.std.proofs.Common.{◌≡◌, take}
-use Rattle.css_rules.proofs.at_rule.copied.Given as goal
-
--- the copies so far are the components so far
-abbrev pub invariant-loop-component : goal.invariant-loop-component
-invariant-loop-component l = l.copy ≡ take l.component-index l.components
