@@ -8,7 +8,7 @@ use Rattle.css_tokens.specs.Tokens.{Reads}
 use Rattle.css_tokens.specs.Trees.{words_all, all_formed}
 use Rattle.selector_types.specs.ReadableSelectors.{is_spelled}
 use Rattle.media_tree.specs.SpelledWords.{AreRead}
-use Rattle.sheet_types.specs.BareItems.{bare_items, bare_sheet, filled_items}
+use Rattle.sheet_types.specs.BareItems.{bare_items, bare_sheet, filled_items, importless}
 use Rattle.sheet_types.specs.Contexts.{Context, outside}
 use Rattle.css_rules.specs.PlainRules.{is_plain_item}
 use Rattle.css_rules.specs.Printable.{ArePrintable, all_whole}
@@ -61,19 +61,22 @@ pub record PrintLaws : Type 0 where
   pub one : (text : List ℕ) (a b : Sheet) → HasSheet text a → HasSheet text b → bare_sheet a ≡ bare_sheet b
   pub reads : (items : List Item) → ArePrintable items → AllStand items → Reads (items_text items) (words_all (items_again items))
   pub formed : (items : List Item) → ArePrintable items → IsTrue (all_formed (items_again items))
-  pub same : (items : List Item) → ArePrintable items → option_map bare_sheet (sheet_of (items_again items)) ≡ Some (filled_items (bare_items items))
+  pub same : (items : List Item) → ArePrintable items → option_map bare_sheet (sheet_of (items_again items)) ≡ Some (importless (filled_items (bare_items items)))
   pub alike : (a b : List Item) (c : Context) → bare_items a ≡ bare_items b → say_all a c ≡ say_all b c
   pub filled : (a b : List Item) (c : Context) → bare_items a ≡ filled_items (bare_items b) → say_all a c ≡ say_all b c
 
 -- the sheet of which this was made
-sheet_behind : (o : Option Sheet) (items : List Item) → option_map bare_sheet o ≡ Some items → (sheet : Sheet) × (o ≡ Some sheet) × (bare_sheet sheet ≡ items)
-sheet_behind None items e = absurd (cc e)
-sheet_behind (Some sheet) items e = (sheet, refl, cc e)
+sheet_behind : (o : Option Sheet) (made : Sheet) → option_map bare_sheet o ≡ Some made → (sheet : Sheet) × (o ≡ Some sheet) × (bare_sheet sheet ≡ made)
+sheet_behind None made e = absurd (cc e)
+sheet_behind (Some sheet) made e = (sheet, refl, cc e)
+
+abbrev items_of : Sheet → List Item
+items_of sheet = sheet.items
 
 module _ (laws : PrintLaws) where
   pub printed-read : (items : List Item) → ArePrintable items → AllStand items → ReadsAsItems (items_text items) items
   printed-read items printable stand =
-      let again = sheet_behind (sheet_of (items_again items)) (filled_items (bare_items items)) (laws.same items printable) in
+      let again = sheet_behind (sheet_of (items_again items)) (importless (filled_items (bare_items items))) (laws.same items printable) in
       let written : HasSheet (items_text items) again.0 = (items_again items, record { reads = laws.reads items printable stand; formed = laws.formed items printable }, again.1) in
       record {
         readable = (again.0, written);
@@ -85,7 +88,7 @@ module _ (laws : PrintLaws) where
   read-keeps source text sheet items has read kept = record {
     readable = read.readable;
     same = λ old new is_old is_new.
-        let before : statements_of sheet ≡ statements_of old = laws.alike sheet.items old.items outside (laws.one source sheet old has is_old) in
-        let behind : say_all items outside ≡ statements_of new = sym (laws.filled new.items items outside (read.same new is_new)) in
+        let before : statements_of sheet ≡ statements_of old = laws.alike sheet.items old.items outside (ap items_of (laws.one source sheet old has is_old)) in
+        let behind : say_all items outside ≡ statements_of new = sym (laws.filled new.items items outside (ap items_of (read.same new is_new))) in
         subst (λ ss. SameWinners ss (statements_of new)) before (subst (SameWinners (statements_of sheet)) behind kept);
   }

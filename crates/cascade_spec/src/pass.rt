@@ -25,10 +25,11 @@ pub trait Pass {
     /// The items that it gives for an item.
     ghost lowered: { Self → Item → List Item };
 
-    /// The sheet of the items that it gives for each item, in order. Refuses for want of memory alone.
+    /// The sheet of the items that it gives for each item, in order, with the imports as they are. Refuses for want of memory alone.
     fn run<'a>(&self, alloc: Global, sheet: Sheet<'a>) -> Result<Sheet<'a>, OutOfMemory>
         requires { AllByRecursion (takes self.now) sheet.items }
-        ensures { IfOk result (λ made. made.items ≡ flat_map (lowered self.now) sheet.entry.items) };
+        ensures items { IfOk result (λ made. made.items ≡ flat_map (lowered self.now) sheet.entry.items) }
+        ensures imports { IfOk result (λ made. made.imports ≡ sheet.entry.imports) };
 
     /// Every list of items that it takes has the winners and the passed rules of what it gives for the list.
     ghost keeps: { (pass : Self) (items : List Item) → AllByRecursion (takes pass) items → (q : Question) → premise pass items q.world
@@ -61,7 +62,7 @@ impl<P: Pass, Q: Pass> Pass for Chain<P, Q> {
     }
 }
 
-/// The sheet that a pass gives. It has the winners and the passed rules of the sheet that the pass took, in every world in
+/// The sheet that a pass gives, with the imports as they are. It has the winners and the passed rules of the sheet that the pass took, in every world in
 /// which the premise of the pass holds. Refuses for want of memory alone.
 pub fn lower<'a, P: Pass>(
     pass: &P,
@@ -70,6 +71,7 @@ pub fn lower<'a, P: Pass>(
 ) -> Result<Sheet<'a>, OutOfMemory>
     requires { AllByRecursion (P.takes pass.now) sheet.items }
     ensures lowered { IfOk result (λ made. made.items ≡ flat_map (P.lowered pass.now) sheet.entry.items) }
+    ensures imports { IfOk result (λ made. made.imports ≡ sheet.entry.imports) }
     ensures kept { IfOk result (λ made. (q : Question) → P.premise pass.now sheet.entry.items q.world → IsKept q (say_all sheet.entry.items outside) (say_all made.items outside)) }
 {
     let made = pass.run(alloc, sheet)?;

@@ -21,8 +21,8 @@ fn take_back(count: usize, out: &mut List<u8>)
     }
 }
 
-// Writes a media query list behind a space, and nothing where the list has no text.
-fn write_queries_behind(list: &[Query], out: &mut List<u8>) -> Result<(), OutOfMemory>
+/// Writes a media query list behind a space, and nothing where the list has no text.
+pub fn write_queries_behind(list: &[Query], out: &mut List<u8>) -> Result<(), OutOfMemory>
     ensures ok { OnOk result (out.new ≡ out.old ++ behind_keyword (queries_text list.now)) }
     ensures err { OnErr result (AppendsFront out.old out.new (behind_keyword (queries_text list.now))) }
 {

@@ -2,6 +2,7 @@
 #![tactic(auto)]
 
 mod heads;
+mod imports;
 mod writer;
 
 pub use writer::print;

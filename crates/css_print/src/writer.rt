@@ -6,6 +6,7 @@ ghost use Rattle.css_print.specs.Private.Printed.{braced_group, holds_bytes};
 ghost use Rattle.std.specs.Prelude.{◌≡◌, ◌++◌, List, flat_map, map, IfOk, OnErr, OnOk};
 
 use crate::heads::{write_condition, write_passed};
+use crate::imports::write_imports;
 use css_tokens::{Component, List, OutOfMemory, Text};
 use selector_tree::write_list;
 use sheet_types::{Declaration, Group, Item, Sheet, Style};
@@ -222,13 +223,14 @@ fn write_items(items: &[Item], out: &mut List<u8>) -> Result<(), OutOfMemory>
     Ok(())
 }
 
-/// The text of a sheet: each rule on a line of its own, and a group on lines of its own, with no white space that could be left
+/// The text of a sheet: its imports, and then each rule on a line of its own, and a group on lines of its own, with no white space that could be left
 /// out (CSSOM, sections 6.4 and 6.7; Conditional Rules 3, section 2). A rule that declares nothing is not printed, nor is a group
 /// in which nothing is, nor an at-rule of another name. It refuses nothing, want of memory aside.
 pub fn print(alloc: Global, sheet: &Sheet) -> Result<List<u8>, OutOfMemory>
     ensures { IfOk result (λ text. text ≡ sheet_text sheet.now) }
 {
     let mut text = List::new(alloc);
+    write_imports(sheet.imports.as_slice(), &mut text)?;
     write_items(sheet.items.as_slice(), &mut text)?;
     Ok(text)
 }

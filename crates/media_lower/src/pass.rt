@@ -35,7 +35,8 @@ impl Pass for MediaPass {
         if are_settled(sheet.items.as_slice()) {
             return Ok(sheet);
         }
-        let items = lowered_items(alloc, sheet.items, List::new(alloc))?;
-        Ok(Sheet { items })
+        let Sheet { imports, items } = sheet;
+        let items = lowered_items(alloc, items, List::new(alloc))?;
+        Ok(Sheet { imports, items })
     }
 }

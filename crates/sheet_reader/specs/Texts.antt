@@ -4,12 +4,12 @@ use Rattle.css_tokens.specs.declared.component.Component.{Component}
 use Rattle.css_tokens.specs.declared.pairing.ComponentFault.TheVariants as components
 use Rattle.css_tokens.specs.Components as texts
 use Rattle.css_tokens.specs.Components.{HasComponents}
-use Rattle.css_rules.specs.Refusals.{first_refusal, syntax, unbuilt}
+use Rattle.css_rules.specs.Refusals.{first_refusal, late_import, syntax, unbuilt}
 use Rattle.css_rules.specs.Sheets.{sheet_of, sheet_refusals}
 use Rattle.css_rules.specs.declared.refusal.Refusal.{Refusal}
 use Rattle.sheet_types.specs.declared.sheet.Sheet.{Sheet}
 use Rattle.sheet_reader.specs.declared.fault.SheetFault.{SheetFault}
-use Rattle.sheet_reader.specs.declared.fault.SheetFault.TheVariants.{Syntax, Depth, Unbuilt, Memory}
+use Rattle.sheet_reader.specs.declared.fault.SheetFault.TheVariants.{Syntax, Depth, Unbuilt, LateImport, Memory}
 
 -- the text has component values that spell this sheet
 abbrev pub SpellsSheet : List ℕ → Sheet → Type 0
@@ -24,4 +24,5 @@ abbrev pub IsFirstFault : List ℕ → SheetFault → Type 0
 IsFirstFault text (Syntax at) = texts.IsFirstFault text (components.Syntax at) ⊎ HasRefusal text (syntax at)
 IsFirstFault text (Depth at) = texts.IsFirstFault text (components.Depth at)
 IsFirstFault text (Unbuilt at) = HasRefusal text (unbuilt at)
+IsFirstFault text (LateImport at) = HasRefusal text (late_import at)
 IsFirstFault text Memory = Unit {0}

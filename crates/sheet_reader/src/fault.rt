@@ -16,6 +16,9 @@ pub enum SheetFault {
     /// It has a construct that is not built yet.
     #[error("not built yet at byte {0}")]
     Unbuilt(u32),
+    /// An import stands behind other rules or in a block.
+    #[error("import comes too late at byte {0}")]
+    LateImport(u32),
     /// Memory ran out.
     #[error("out of memory")]
     Memory,
@@ -54,6 +57,7 @@ impl From<RuleFault> for SheetFault {
         match fault {
             RuleFault::Syntax(at) => SheetFault::Syntax(at),
             RuleFault::Unbuilt(at) => SheetFault::Unbuilt(at),
+            RuleFault::LateImport(at) => SheetFault::LateImport(at),
             RuleFault::Memory => SheetFault::Memory,
         }
     }

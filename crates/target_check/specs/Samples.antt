@@ -18,11 +18,11 @@ nested_in selectors inner = record { selectors = selectors; items = item.Style i
 
 -- a sheet of this rule alone
 abbrev pub sheet_of_rule : style.Style → Sheet
-sheet_of_rule rule = record { items = item.Style rule ∷ [] }
+sheet_of_rule rule = record { imports = []; items = item.Style rule ∷ [] }
 
 -- a sheet of this item alone
 abbrev pub sheet_of_item : Item → Sheet
-sheet_of_item x = record { items = x ∷ [] }
+sheet_of_item x = record { imports = []; items = x ∷ [] }
 
 -- a sheet of one group, with this condition and these items
 abbrev pub sheet_of_group : GroupCondition → List Item → Sheet

@@ -13,8 +13,8 @@ use Rattle.selector_types.specs.declared.selector.Part as part
 use Rattle.selector_types.specs.declared.selector.Selector.{Selector}
 use Rattle.selector_types.specs.declared.selector.Simple.{Simple}
 use Rattle.selector_types.specs.declared.selector.Simple as simple
-use Rattle.css_rules.specs.Components.{head, is_ident, is_keyword, name_of}
-use Rattle.css_rules.specs.Cuts.{trimmed}
+use Rattle.css_components.specs.Components.{head, is_ident, is_keyword, name_of}
+use Rattle.css_components.specs.Trimming.{trimmed}
 use Rattle.sheet_types.specs.declared.sheet.Declaration.{Declaration}
 use Rattle.sheet_types.specs.declared.sheet.Item.{Item}
 use Rattle.sheet_types.specs.declared.sheet.Item as item
@@ -141,9 +141,9 @@ declares x = (age x).declares
 abbrev pub is_old_item : Item → Bool
 is_old_item x = (age x).old
 
--- Is it a target sheet: is each item of it so?
+-- Is it a target sheet: has it no import, and is each item of it so?
 abbrev pub is_target : Sheet → Bool
-is_target sheet = list_all is_old_item sheet.items
+is_target sheet = not (has_some sheet.imports) && list_all is_old_item sheet.items
 
 -- Equations.
 

@@ -3,7 +3,8 @@ ghost use Rattle.std.specs.List.{list_all};
 ghost use Rattle.std.specs.Prelude.{◌≡◌, IsTrue};
 ghost use Rattle.target_check.specs.Targets.{is_axis, is_flow_value, is_lone_keyword, is_old_declaration, is_old_property, is_side, is_the_keyword};
 
-use css_rules::{Declaration, trimmed};
+use css_components::trimmed;
+use css_rules::Declaration;
 use css_tokens::{Component, Kind, is_keyword};
 use prop_table::is_logical;
 

@@ -94,7 +94,7 @@ fn are_old_items(items: &[Item]) -> bool
     true
 }
 
-/// Whether a sheet is a target sheet: it holds style rules, groups and rules that are passed on alone. A style rule declares
+/// Whether a sheet is a target sheet: it imports none, and holds style rules, groups and rules that are passed on alone. A style rule declares
 /// something and holds no rule or group, and each selector is one of Selectors 3, but for pseudo-classes and pseudo-elements of
 /// any name without an argument. A group holds something, each of it such a rule or group, and asks for a media query list that
 /// Media Queries 3, section 2, has, but for features of any name, or for a supports condition without functions (Conditional Rules
@@ -103,5 +103,5 @@ fn are_old_items(items: &[Item]) -> bool
 pub fn is_target(sheet: &Sheet) -> bool
     ensures { result ≡ is_target sheet.now }
 {
-    are_old_items(sheet.items.as_slice())
+    sheet.imports.is_empty() && are_old_items(sheet.items.as_slice())
 }

@@ -4,7 +4,7 @@ use Rattle.css_tokens.specs.declared.pairing.ComponentFault.TheVariants as compo
 use Rattle.css_rules.specs.declared.reader.RuleFault.{RuleFault}
 use Rattle.css_rules.specs.declared.reader.RuleFault.TheVariants as rules
 use Rattle.sheet_reader.specs.declared.fault.SheetFault.{SheetFault}
-use Rattle.sheet_reader.specs.declared.fault.SheetFault.TheVariants.{Syntax, Depth, Unbuilt, Memory}
+use Rattle.sheet_reader.specs.declared.fault.SheetFault.TheVariants.{Syntax, Depth, Unbuilt, LateImport, Memory}
 
 -- a fault of components
 abbrev pub of_components : ComponentFault → SheetFault
@@ -16,4 +16,5 @@ of_components components.Memory = Memory
 abbrev pub of_rules : RuleFault → SheetFault
 of_rules (rules.Syntax at) = Syntax at
 of_rules (rules.Unbuilt at) = Unbuilt at
+of_rules (rules.LateImport at) = LateImport at
 of_rules rules.Memory = Memory
