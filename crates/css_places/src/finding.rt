@@ -7,6 +7,8 @@ pub enum Code {
     Syntax,
     /// Its blocks nest deeper than 64.
     Depth,
+    /// An import stands in it behind other rules or in a block.
+    LateImport,
     /// It is not there.
     Missing,
     /// It has a construct that is not built yet.

@@ -19,7 +19,7 @@ use Rattle.findings.specs.Firsts.{first_finding}
 use Rattle.findings.specs.Limits.{is_long, items_lists}
 use Rattle.std.specs.List.{list_any}
 use Rattle.css_places.specs.declared.finding.Code.{Code}
-use Rattle.css_places.specs.declared.finding.Code.TheVariants.{Syntax, Depth, Missing, Unbuilt}
+use Rattle.css_places.specs.declared.finding.Code.TheVariants.{Syntax, Depth, LateImport, Missing, Unbuilt}
 use Rattle.css_places.specs.declared.finding.Finding.{Finding}
 use Rattle.css_places.specs.declared.finding.LimitKind.{LimitKind}
 use Rattle.css_places.specs.declared.finding.LimitKind.TheVariants.{L2, L8}
@@ -112,6 +112,7 @@ module _ (laws : AnswerLaws) where
   unfolding HasFinding
   refused_by bytes cs has causes.Syntax at named = (Syntax, at, inr (inr (inl (cs, has, named))))
   refused_by bytes cs has causes.Unbuilt at named = (Unbuilt, at, inr (inr (inl (cs, has, named))))
+  refused_by bytes cs has causes.LateImport at named = (LateImport, at, inr (inr (inl (cs, has, named))))
 
   -- a sheet in which all can be expressed is accepted, or it passes the limit of its media query lists
   of_clean : (bytes : List ℕ) (sheet : Sheet) → SpellsSheet bytes sheet → sheet_findings 0 sheet ≡ [] → (long : Bool) → list_any is_long (items_lists sheet.items) ≡ long → IsJudged bytes

@@ -9,7 +9,7 @@ use Rattle.css_tokens.specs.Piece.{Piece, Word, word_of}
 use Rattle.css_tokens.specs.Tokens.{Reads, IsPlaced, StopsAt, mark_length}
 use Rattle.css_tokens.specs.Trees.{pieces_all, all_formed}
 use Rattle.css_rules.specs.declared.refusal.Refusal.{Refusal}
-use Rattle.css_rules.specs.Refusals.{first_refusal, syntax, unbuilt}
+use Rattle.css_rules.specs.Refusals.{first_refusal, late_import, syntax, unbuilt}
 use Rattle.css_rules.specs.Sheets.{sheet_of, sheet_refusals}
 use Rattle.sheet_types.specs.declared.sheet.Sheet.{Sheet}
 use Rattle.findings.specs.Constructs.{sheet_findings}
@@ -17,7 +17,7 @@ use Rattle.findings.specs.Firsts.{first_finding}
 use Rattle.findings.specs.Limits.{sheet_limit}
 use Rattle.css_places.specs.declared.finding.LimitKind.{LimitKind}
 use Rattle.css_places.specs.declared.finding.Code.{Code}
-use Rattle.css_places.specs.declared.finding.Code.TheVariants.{Syntax, Depth, Missing, Unbuilt, X6, X7, X11, X12, X16, X17, X22}
+use Rattle.css_places.specs.declared.finding.Code.TheVariants.{Syntax, Depth, LateImport, Missing, Unbuilt, X6, X7, X11, X12, X16, X17, X22}
 use Rattle.css_tokens.specs.Components.{HasComponents, HasTokens}
 use Rattle.sheet_reader.specs.Texts.{SpellsSheet}
 use Rattle.csslower.specs.Findings.{IsUnpaired, IsRefused, IsFound, code_and_offset, HasFinding, IsAccepted, PassesLimit}
@@ -64,6 +64,11 @@ refused_one cs Syntax Syntax o p a b = (refl, same_place (syntax o) (syntax p) (
 refused_one cs Unbuilt Unbuilt o p a b = (refl, same_place (unbuilt o) (unbuilt p) (sym a ∙ b))
 refused_one cs Syntax Unbuilt o p a b = absurd (let e = same_cause (syntax o) (unbuilt p) (sym a ∙ b) in cc e)
 refused_one cs Unbuilt Syntax o p a b = absurd (let e = same_cause (unbuilt o) (syntax p) (sym a ∙ b) in cc e)
+refused_one cs LateImport LateImport o p a b = (refl, same_place (late_import o) (late_import p) (sym a ∙ b))
+refused_one cs LateImport Syntax o p a b = absurd (let e = same_cause (late_import o) (syntax p) (sym a ∙ b) in cc e)
+refused_one cs LateImport Unbuilt o p a b = absurd (let e = same_cause (late_import o) (unbuilt p) (sym a ∙ b) in cc e)
+refused_one cs Syntax LateImport o p a b = absurd (let e = same_cause (syntax o) (late_import p) (sym a ∙ b) in cc e)
+refused_one cs Unbuilt LateImport o p a b = absurd (let e = same_cause (unbuilt o) (late_import p) (sym a ∙ b) in cc e)
 refused_one cs Syntax Depth o p a b = absurd b
 refused_one cs Syntax Missing o p a b = absurd b
 refused_one cs Syntax X6 o p a b = absurd b
@@ -82,6 +87,15 @@ refused_one cs Unbuilt X12 o p a b = absurd b
 refused_one cs Unbuilt X16 o p a b = absurd b
 refused_one cs Unbuilt X17 o p a b = absurd b
 refused_one cs Unbuilt X22 o p a b = absurd b
+refused_one cs LateImport Depth o p a b = absurd b
+refused_one cs LateImport Missing o p a b = absurd b
+refused_one cs LateImport X6 o p a b = absurd b
+refused_one cs LateImport X7 o p a b = absurd b
+refused_one cs LateImport X11 o p a b = absurd b
+refused_one cs LateImport X12 o p a b = absurd b
+refused_one cs LateImport X16 o p a b = absurd b
+refused_one cs LateImport X17 o p a b = absurd b
+refused_one cs LateImport X22 o p a b = absurd b
 refused_one cs Depth d o p a b = absurd a
 refused_one cs Missing d o p a b = absurd a
 refused_one cs X6 d o p a b = absurd a
@@ -98,6 +112,7 @@ same_pair x y e = cc e
 refused_none : (cs : List Component) (c : Code) (o : ℕ) → sheet_refusals cs ≡ [] → IsRefused cs c o → ⊥
 refused_none cs Syntax o none a = let e = sym (ap first_refusal none) ∙ a in cc e
 refused_none cs Unbuilt o none a = let e = sym (ap first_refusal none) ∙ a in cc e
+refused_none cs LateImport o none a = let e = sym (ap first_refusal none) ∙ a in cc e
 refused_none cs Depth o none a = a
 refused_none cs Missing o none a = a
 refused_none cs X6 o none a = a
@@ -126,6 +141,7 @@ module _ (laws : ReadingLaws) (bytes : List ℕ) where
   unpaired_one ts Syntax Depth o p a b = absurd (let e = same_fault ts (fault.Syntax o) (fault.Depth p) a b in cc e)
   unpaired_one ts Depth Syntax o p a b = absurd (let e = same_fault ts (fault.Depth o) (fault.Syntax p) a b in cc e)
   unpaired_one ts Depth Depth o p a b = (refl, (let e = same_fault ts (fault.Depth o) (fault.Depth p) a b in cc e))
+  unpaired_one ts Syntax LateImport o p a b = absurd b
   unpaired_one ts Syntax Missing o p a b = absurd b
   unpaired_one ts Syntax Unbuilt o p a b = absurd b
   unpaired_one ts Syntax X6 o p a b = absurd b
@@ -135,6 +151,7 @@ module _ (laws : ReadingLaws) (bytes : List ℕ) where
   unpaired_one ts Syntax X16 o p a b = absurd b
   unpaired_one ts Syntax X17 o p a b = absurd b
   unpaired_one ts Syntax X22 o p a b = absurd b
+  unpaired_one ts Depth LateImport o p a b = absurd b
   unpaired_one ts Depth Missing o p a b = absurd b
   unpaired_one ts Depth Unbuilt o p a b = absurd b
   unpaired_one ts Depth X6 o p a b = absurd b
@@ -144,6 +161,7 @@ module _ (laws : ReadingLaws) (bytes : List ℕ) where
   unpaired_one ts Depth X16 o p a b = absurd b
   unpaired_one ts Depth X17 o p a b = absurd b
   unpaired_one ts Depth X22 o p a b = absurd b
+  unpaired_one ts LateImport d o p a b = absurd a
   unpaired_one ts Missing d o p a b = absurd a
   unpaired_one ts Unbuilt d o p a b = absurd a
   unpaired_one ts X6 d o p a b = absurd a
@@ -157,6 +175,7 @@ module _ (laws : ReadingLaws) (bytes : List ℕ) where
   unpaired_none : (ts : List Piece) (c : Code) (o : ℕ) → IsPaired ts → IsUnpaired ts (length bytes) c o → ⊥
   unpaired_none ts Syntax o p a = laws.paired ts (length bytes) (fault.Syntax o) p a
   unpaired_none ts Depth o p a = laws.paired ts (length bytes) (fault.Depth o) p a
+  unpaired_none ts LateImport o p a = a
   unpaired_none ts Missing o p a = a
   unpaired_none ts Unbuilt o p a = a
   unpaired_none ts X6 o p a = a

@@ -3,7 +3,7 @@ use Rattle.std.proofs.Common.{ℕ, List, refl, inl, inr}
 use Rattle.css_places.specs.declared.finding.Code.TheVariants as codes
 use Rattle.csslower.specs.Findings.{HasFinding}
 use Rattle.sheet_reader.specs.Texts.{IsFirstFault}
-use Rattle.sheet_reader.specs.declared.fault.SheetFault.TheVariants.{Syntax, Depth, Unbuilt}
+use Rattle.sheet_reader.specs.declared.fault.SheetFault.TheVariants.{Syntax, Depth, Unbuilt, LateImport}
 
 pub syntax_finding : (text : List ℕ) (at : ℕ) → IsFirstFault text (Syntax at) → HasFinding text codes.Syntax at
 unfolding HasFinding
@@ -18,3 +18,7 @@ depth_finding text at brackets = inr (inl brackets)
 pub unbuilt_finding : (text : List ℕ) (at : ℕ) → IsFirstFault text (Unbuilt at) → HasFinding text codes.Unbuilt at
 unfolding HasFinding
 unbuilt_finding text at refusal = inr (inr (inl refusal))
+
+pub late_finding : (text : List ℕ) (at : ℕ) → IsFirstFault text (LateImport at) → HasFinding text codes.LateImport at
+unfolding HasFinding
+late_finding text at refusal = inr (inr (inl refusal))

@@ -8,7 +8,7 @@ use Rattle.css_tokens.specs.Components.{HasComponents, HasTokens}
 use Rattle.css_tokens.specs.Pairing.{IsBracketFault}
 use Rattle.css_tokens.specs.Piece.{Piece}
 use Rattle.css_tokens.specs.Tokens.{StopsAt}
-use Rattle.css_rules.specs.Refusals.{first_refusal, syntax, unbuilt}
+use Rattle.css_rules.specs.Refusals.{first_refusal, late_import, syntax, unbuilt}
 use Rattle.css_rules.specs.Sheets.{sheet_refusals}
 use Rattle.sheet_types.specs.declared.sheet.Sheet.{Sheet}
 use Rattle.sheet_reader.specs.Texts.{SpellsSheet}
@@ -18,7 +18,7 @@ use Rattle.findings.specs.Limits.{sheet_limit}
 use Rattle.css_places.specs.declared.finding.Code.{Code}
 use Rattle.css_places.specs.declared.finding.Finding.{Finding}
 use Rattle.css_places.specs.declared.finding.LimitKind.{LimitKind}
-use Rattle.css_places.specs.declared.finding.Code.TheVariants.{Syntax, Depth, Missing, Unbuilt, X6, X7, X11, X12, X16, X17, X22}
+use Rattle.css_places.specs.declared.finding.Code.TheVariants.{Syntax, Depth, LateImport, Missing, Unbuilt, X6, X7, X11, X12, X16, X17, X22}
 
 -- no token that is read begins there, or no text may hold what stands there
 abbrev pub HasStop : List ℕ → Code → ℕ → Type 0
@@ -28,6 +28,7 @@ HasStop bytes code offset = (code ≡ Syntax) × StopsAt bytes offset
 abbrev pub IsUnpaired : List Piece → ℕ → Code → ℕ → Type 0
 IsUnpaired tokens end Syntax offset = IsBracketFault tokens end (fault.Syntax offset)
 IsUnpaired tokens end Depth offset = IsBracketFault tokens end (fault.Depth offset)
+IsUnpaired tokens end LateImport offset = ⊥
 IsUnpaired tokens end Missing offset = ⊥
 IsUnpaired tokens end Unbuilt offset = ⊥
 IsUnpaired tokens end X6 offset = ⊥
@@ -46,6 +47,7 @@ HasBracketFault bytes code offset = (tokens : List Piece) × HasTokens bytes tok
 abbrev pub IsRefused : List Component → Code → ℕ → Type 0
 IsRefused components Syntax offset = first_refusal (sheet_refusals components) ≡ Some (syntax offset)
 IsRefused components Unbuilt offset = first_refusal (sheet_refusals components) ≡ Some (unbuilt offset)
+IsRefused components LateImport offset = first_refusal (sheet_refusals components) ≡ Some (late_import offset)
 IsRefused components Depth offset = ⊥
 IsRefused components Missing offset = ⊥
 IsRefused components X6 offset = ⊥

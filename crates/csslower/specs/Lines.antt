@@ -3,7 +3,7 @@ use Rattle.std.specs.Prelude.{ℕ, List, [], ◌∷◌, ◌++◌, codes}
 use Rattle.std.specs.Fmt.{decimal}
 use Rattle.css_places.specs.Lines.{line_of, column_of}
 use Rattle.css_places.specs.declared.finding.Code.{Code}
-use Rattle.css_places.specs.declared.finding.Code.TheVariants.{Syntax, Depth, Missing, Unbuilt, X6, X7, X11, X12, X16, X17, X22}
+use Rattle.css_places.specs.declared.finding.Code.TheVariants.{Syntax, Depth, LateImport, Missing, Unbuilt, X6, X7, X11, X12, X16, X17, X22}
 use Rattle.css_places.specs.declared.finding.Finding.{Finding}
 use Rattle.css_places.specs.declared.finding.LimitKind.{LimitKind}
 use Rattle.css_places.specs.declared.finding.LimitKind.TheVariants.{L2, L8}
@@ -16,6 +16,7 @@ line_end = 10 ∷ []
 abbrev pub code_text : Code → List ℕ
 code_text Syntax = codes "Syntax cannot be read"
 code_text Depth = codes "Depth nested too deep"
+code_text LateImport = codes "LateImport import comes too late"
 code_text Missing = codes "Missing file not found"
 code_text Unbuilt = codes "Unbuilt not built yet"
 code_text X6 = codes "X6 :where"

@@ -23,6 +23,7 @@ use std::mem;
 fn lowered<'a>(alloc: Global, sheet: Sheet<'a>) -> Result<Sheet<'a>, OutOfMemory>
     requires { (source : List ℕ) × HasSheet source sheet }
     ensures items { IfOk result (λ made. made.items ≡ flat_map lowered_item sheet.entry.items) }
+    ensures imports { IfOk result (λ made. made.imports ≡ sheet.entry.imports) }
     ensures kept { IfOk result (λ made. SameWinners (statements_of sheet.entry) (say_all made.items outside)) }
 {
     cascade_spec::laws::sheets_of_texts();

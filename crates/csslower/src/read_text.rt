@@ -32,6 +32,10 @@ pub(crate) fn text_sheet<'a>(alloc: Global, text: &'a [u8]) -> Result<Sheet<'a>,
             code: Code::Unbuilt,
             offset,
         }),
+        Err(SheetFault::LateImport(offset)) => Err(TextFault::Finding {
+            code: Code::LateImport,
+            offset,
+        }),
         Err(SheetFault::Memory) => Err(TextFault::Memory),
     }
 }

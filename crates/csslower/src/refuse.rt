@@ -56,6 +56,7 @@ fn code_text(code: Code) -> &'static str
     match code {
         Code::Syntax => "Syntax cannot be read",
         Code::Depth => "Depth nested too deep",
+        Code::LateImport => "LateImport import comes too late",
         Code::Missing => "Missing file not found",
         Code::Unbuilt => "Unbuilt not built yet",
         Code::X6 => "X6 :where",

@@ -19,6 +19,7 @@ use Rattle.selector_types.specs.ReadableSelectors.{writable, is_writable_simple,
 use Rattle.selector_types.specs.SelectorFold.{made_part, made_link, simple_of, compound_of, folded-Class, folded-Id, folded-Attribute, folded-Pseudo, folded-Not, folded-Is, folded-Where, folded-Parent, folded-Local, folded-Global, folded-Compound, folded-Selector}
 use Rattle.selector_types.specs.SelectorInduction.{Cases, by_lists}
 use Rattle.sheet_types.specs.declared.sheet.Declaration.{Declaration}
+use Rattle.sheet_types.specs.declared.sheet.Import.{Import}
 use Rattle.sheet_types.specs.declared.sheet.Item.{Item}
 use Rattle.sheet_types.specs.declared.sheet.Sheet.{Sheet}
 use Rattle.sheet_types.specs.ItemFold.{folded-Plain, folded-Style, folded-Group, folded-Passed, folded-Other}
@@ -32,7 +33,7 @@ use Rattle.media_spelling.specs.SupportsInduction as supports_induction
 use Rattle.media_spelling.specs.declared.supports.Supports.{Supports}
 use Rattle.css_rules.specs.Printable.{all_whole, is_whole, is_whole_condition}
 use Rattle.css_places.specs.declared.finding.Code.{Code}
-use Rattle.findings.specs.Constructs.{code_of, condition_findings, found-Group, found-Style, item_findings, items_findings, list_findings, part_finding, part_findings, sheet_findings}
+use Rattle.findings.specs.Constructs.{code_of, condition_findings, found-Group, found-Style, imports_findings, item_findings, items_findings, list_findings, part_finding, part_findings, sheet_findings}
 use Rattle.findings.specs.SupportsFunctions.{called-And, called-Or, called-Not, called-Function, supports_findings}
 
 -- Lists.
@@ -210,4 +211,12 @@ module _ (file : ℕ) where
   each_item (x ∷ xs) = (items.by_items Whole item_cases x, each_item xs)
 
 pub sheet-whole : (file : ℕ) (sheet : Sheet) → sheet_findings file sheet ≡ [] → all_whole sheet ≡ true
-sheet-whole file sheet none = inner file sheet.items (each_item file sheet.items) none
+sheet-whole file sheet none = inner file sheet.items (each_item file sheet.items) (back-none (imports_findings file sheet.imports) (items_findings file sheet.items) none)
+
+-- each import has a finding
+pub sheet-importless : (file : ℕ) (sheet : Sheet) → sheet_findings file sheet ≡ [] → sheet.imports ≡ []
+sheet-importless file sheet none = at sheet.imports (front-none (imports_findings file sheet.imports) (items_findings file sheet.items) none)
+  where
+    at : (imports : List Import) → imports_findings file imports ≡ [] → imports ≡ []
+    at [] e = refl
+    at (i ∷ imports) e = absurd (cc e)

@@ -1,6 +1,6 @@
 -- The constructs that cannot be expressed for older browsers: where each stands, and its code. A part of a selector has at
 -- most one.
-use Rattle.std.specs.Prelude.{ℕ, List, [], ◌∷◌, ◌++◌, ◌≡◌, flat_map, Option, Some, None, if◌then◌else◌}
+use Rattle.std.specs.Prelude.{ℕ, List, [], ◌∷◌, ◌++◌, ◌≡◌, map, flat_map, Option, Some, None, if◌then◌else◌}
 use Rattle.std.proofs.Common.{◌∙◌, ap}
 use Rattle.std.proofs.lemmas.List.Folds.{flat_map-map}
 use Rattle.std.specs.List.{filter_map}
@@ -13,6 +13,7 @@ use Rattle.selector_types.specs.declared.selector.Link.TheOpen.{Class, Id, Attri
 use Rattle.selector_types.specs.LoneSimples.{Opened, is_one_scopable}
 use Rattle.selector_types.specs.PartsWithin.{list_parts}
 use Rattle.sheet_types.specs.declared.sheet.Declaration.{Declaration}
+use Rattle.sheet_types.specs.declared.sheet.Import.{Import}
 use Rattle.sheet_types.specs.declared.sheet.Item.{Item}
 use Rattle.sheet_types.specs.declared.sheet.Item as item
 use Rattle.sheet_types.specs.declared.sheet.Group as group
@@ -23,7 +24,7 @@ use Rattle.sheet_types.specs.declared.sheet.Style as style
 use Rattle.sheet_types.specs.declared.sheet.Sheet.{Sheet}
 use Rattle.sheet_types.specs.ItemFold.{Steps, folded, folded-Plain, folded-Style, folded-Group, folded-Passed, folded-Other}
 use Rattle.css_places.specs.declared.finding.Code.{Code}
-use Rattle.css_places.specs.declared.finding.Code.TheVariants.{X6, X7, X11, X12, X16, X22}
+use Rattle.css_places.specs.declared.finding.Code.TheVariants.{Unbuilt, X6, X7, X11, X12, X16, X22}
 use Rattle.css_places.specs.declared.finding.Finding.{Finding}
 use Rattle.findings.specs.Found.{found_at}
 use Rattle.findings.specs.MediaFeatures.{asks_young}
@@ -83,9 +84,13 @@ item_findings file = folded (finding file)
 abbrev pub items_findings : ℕ → List Item → List Finding
 items_findings file items = flat_map (item_findings file) items
 
+-- what stands in the imports of this file: they are not built yet
+abbrev pub imports_findings : ℕ → List Import → List Finding
+imports_findings file imports = map (λ i. found_at file i.at Unbuilt) imports
+
 -- what stands in a sheet, which is this file
 abbrev pub sheet_findings : ℕ → Sheet → List Finding
-sheet_findings file sheet = items_findings file sheet.items
+sheet_findings file sheet = imports_findings file sheet.imports ++ items_findings file sheet.items
 
 -- Equations.
 

@@ -1,7 +1,7 @@
 -- Which finding is named: the first by file, then by offset, then by the number of its code.
 use Rattle.std.specs.Prelude.{ℕ, List, Bool, ◌||◌, ◌&&◌, Option, Some, None, if◌then◌else◌, fold, nat_eq, nat_le, nat_lt}
 use Rattle.css_places.specs.declared.finding.Code.{Code}
-use Rattle.css_places.specs.declared.finding.Code.TheVariants.{Syntax, Depth, Missing, Unbuilt, X6, X7, X11, X12, X16, X17, X22}
+use Rattle.css_places.specs.declared.finding.Code.TheVariants.{Syntax, Depth, LateImport, Missing, Unbuilt, X6, X7, X11, X12, X16, X17, X22}
 use Rattle.css_places.specs.declared.finding.Finding.{Finding}
 use Rattle.css_places.specs.declared.place.Place.{Place}
 
@@ -9,6 +9,7 @@ use Rattle.css_places.specs.declared.place.Place.{Place}
 abbrev pub code_number : Code → ℕ
 code_number Syntax = 0
 code_number Depth = 0
+code_number LateImport = 0
 code_number Missing = 0
 code_number Unbuilt = 0
 code_number X6 = 6

@@ -16,6 +16,8 @@ pub struct Clean<'s, 'a> {
 
 impl<'s, 'a> Model for Clean<'s, 'a> {
     ghost use Rattle.sheet_types.specs.declared.sheet.Sheet.{Sheet};
+    ghost use Rattle.media_spelling.specs.contracts.condition.Condition as the_condition;
+    ghost use Rattle.media_spelling.specs.contracts.supports.Supports as the_supports;
     ghost use Rattle.sheet_types.specs.contracts.sheet.Item as the_item;
     ghost use Rattle.std.specs.Coded.{codes};
     ghost use Rattle.std.specs.Prelude.{[]};
@@ -24,7 +26,7 @@ impl<'s, 'a> Model for Clean<'s, 'a> {
 
     ghost use mir.Syntax.{named};
 
-    ghost coded = { Prim.hlevel (codes, (the_item.the_row (record { mir = named 0; lft = [] })).coded) };
+    ghost coded = { Prim.hlevel (codes, (the_condition.the_row (record { mir = named 0; lft = [] })).coded, (the_supports.the_row (record { mir = named 0; lft = [] })).coded, (the_item.the_row (record { mir = named 0; lft = [] })).coded) };
 
     ghost view = { λ clean. clean.sheet.now };
 

@@ -20,7 +20,7 @@ fn code_number(code: Code) -> u8
     ensures { result ≡ code_number code }
 {
     match code {
-        Code::Syntax | Code::Depth | Code::Missing | Code::Unbuilt => 0,
+        Code::Syntax | Code::Depth | Code::LateImport | Code::Missing | Code::Unbuilt => 0,
         Code::X6 => 6,
         Code::X7 => 7,
         Code::X11 => 11,

@@ -1,6 +1,6 @@
 //! What stands in the rules of a sheet.
 
-ghost use Rattle.findings.specs.Constructs.{condition_findings, item_findings, items_findings, list_findings, sheet_findings};
+ghost use Rattle.findings.specs.Constructs.{condition_findings, imports_findings, item_findings, items_findings, list_findings, sheet_findings};
 ghost use Rattle.findings.specs.Firsts.{first_finding, first_from};
 ghost use Rattle.std.specs.Prelude.{◌≡◌, ◌++◌};
 
@@ -8,7 +8,7 @@ use crate::condition::in_condition;
 use crate::first::{found_at, sooner};
 use crate::selector::in_list;
 use css_places::{Code, Finding};
-use sheet_types::{Group, Item, Sheet, Style};
+use sheet_types::{Group, Import, Item, Sheet, Style};
 
 #[cycle(finds)]
 fn in_items(items: &[Item], file: u32, best: Option<Finding>) -> Option<Finding>
@@ -50,9 +50,20 @@ fn in_group(group: &Group, file: u32, best: Option<Finding>) -> Option<Finding>
     in_items(group.items.as_slice(), file, best)
 }
 
+fn in_imports(imports: &[Import], file: u32) -> Option<Finding>
+    ensures { result ≡ first_finding (imports_findings file imports.now) }
+{
+    let mut best = None;
+    for import in imports {
+        best = sooner(best, Some(found_at(file, import.at, Code::Unbuilt)));
+    }
+    best
+}
+
 /// The finding that is named of those in a sheet, which is the file of this number.
 pub fn first_finding(sheet: &Sheet, file: u32) -> Option<Finding>
     ensures { result ≡ first_finding (sheet_findings file sheet.now) }
 {
-    in_items(sheet.items.as_slice(), file, None)
+    let best = in_imports(sheet.imports.as_slice(), file);
+    in_items(sheet.items.as_slice(), file, best)
 }

@@ -3,8 +3,10 @@ ghost use Rattle.sheet_types.specs.declared.sheet.Sheet.{Sheet};
 ghost use Rattle.findings.specs.Constructs.{sheet_findings};
 ghost use Rattle.std.specs.Prelude.{◌≡◌, [], ℕ, IsTrue};
 
-/// All is kept of the selectors of a sheet in which nothing stands that cannot be expressed: they have no functions without a
+/// A sheet in which nothing stands that cannot be expressed has no import, since none is built yet. All is kept of the selectors
+/// of a sheet in which nothing stands that cannot be expressed: they have no functions without a
 /// name that is known, and no flags.
 pub fn clean_sheets_are_whole()
-    ensures { (file : ℕ) (sheet : Sheet) → sheet_findings file sheet ≡ [] → IsTrue (all_whole sheet) }
+    ensures importless { (file : ℕ) (sheet : Sheet) → sheet_findings file sheet ≡ [] → sheet.imports ≡ [] }
+    ensures whole { (file : ℕ) (sheet : Sheet) → sheet_findings file sheet ≡ [] → IsTrue (all_whole sheet) }
 {}

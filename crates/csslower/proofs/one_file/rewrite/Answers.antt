@@ -13,14 +13,15 @@ returns-clause-kept c =
     let made = c.in_ok-made.made in
     let has = has-sheet bytes sheet c.in_ok-sheet.ensures.spelled in
     let laws : PrintLaws = record {
-      whole = c.clean_sheets_are_whole.ensures;
+      importless = c.clean_sheets_are_whole.ensures.importless;
+      whole = c.clean_sheets_are_whole.ensures.whole;
       printable = c.sheets_of_texts.ensures.printable;
       stand = c.sheets_of_texts.ensures.stand;
       still_printable = c.lowered_items_are_printable.ensures.printable;
       still_stand = c.lowered_items_are_printable.ensures.stand;
       read = c.printed_items_are_read.ensures.read;
     } in
-    let read = lowered-read laws bytes sheet made c.in_ok-text.text has c.in_ok-_clean.ensures.nothing c.in_ok-made.ensures.items c.in_ok-text.ensures in
+    let read = lowered-read laws bytes sheet made c.in_ok-text.text has c.in_ok-_clean.ensures.nothing c.in_ok-made.ensures.items c.in_ok-made.ensures.imports c.in_ok-text.ensures in
     c.printed_items_are_read.ensures.kept bytes c.in_ok-text.text sheet made.items has (subst (ReadsAsItems c.in_ok-text.text) (sym c.in_ok-made.ensures.items) read) c.in_ok-made.ensures.kept
 
 pub returns-clause-target : goal.returns-clause-target
@@ -29,7 +30,8 @@ returns-clause-target c =
     let sheet = c.in_ok-sheet.sheet in
     let has = has-sheet bytes sheet c.in_ok-sheet.ensures.spelled in
     let laws : PrintLaws = record {
-      whole = c.clean_sheets_are_whole.ensures;
+      importless = c.clean_sheets_are_whole.ensures.importless;
+      whole = c.clean_sheets_are_whole.ensures.whole;
       printable = c.sheets_of_texts.ensures.printable;
       stand = c.sheets_of_texts.ensures.stand;
       still_printable = c.lowered_items_are_printable.ensures.printable;
@@ -37,4 +39,4 @@ returns-clause-target c =
       read = c.printed_items_are_read.ensures.read;
     } in
     c.lowered_sheets_are_targets.ensures bytes c.in_ok-text.text sheet has c.in_ok-_clean.ensures.nothing
-    (lowered-read laws bytes sheet c.in_ok-made.made c.in_ok-text.text has c.in_ok-_clean.ensures.nothing c.in_ok-made.ensures.items c.in_ok-text.ensures)
+    (lowered-read laws bytes sheet c.in_ok-made.made c.in_ok-text.text has c.in_ok-_clean.ensures.nothing c.in_ok-made.ensures.items c.in_ok-made.ensures.imports c.in_ok-text.ensures)

@@ -1,5 +1,5 @@
-use Rattle.findings.proofs.Whole.{sheet-whole}
+use Rattle.findings.proofs.Whole.{sheet-importless, sheet-whole}
 use Rattle.findings.proofs.whole_law.clean_sheets_are_whole.Goals as goal
 
 pub returns : goal.returns
-returns c = sheet-whole
+returns c = record { importless = sheet-importless; whole = sheet-whole }
