@@ -1,0 +1,14 @@
+pub mod Answering
+pub mod Apart
+pub mod Distinct
+pub mod NewPaths
+pub mod Numbers
+pub mod OrderSteps
+pub mod PathOrder
+pub mod Placing
+pub mod Reaching
+pub mod ReadingOn
+pub mod Sorting
+pub mod Sound
+pub mod WaveLaws
+pub mod WaveSteps
