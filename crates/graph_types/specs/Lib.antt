@@ -1,0 +1,3 @@
+pub mod Unfolding
+pub mod Whole
+pub mod Samples
